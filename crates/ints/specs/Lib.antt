@@ -1,0 +1,5 @@
+pub mod Bound
+pub mod Ring
+pub mod Order
+pub mod Casts
+pub mod Parts
