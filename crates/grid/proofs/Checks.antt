@@ -1,0 +1,95 @@
+-- Laws of checks in a row, and of specs/Checks.antt: a check that finds no fault says that its line of the table does not hold. Assumes nothing.
+use mathlib.Core.Bool.{Bool, true, false, not, _||_, true≢false, false≢true}
+use mathlib.Core.Logic.{_↔_}
+use mathlib.Core.Path.{_≡_, refl, sym, ap, _∙_}
+use mathlib.Core.List.{List}
+use Prim.Native.Nat.{ℕ, _*_, _<_, _≤_}
+use native.Mathlib.Omega.{arith}
+use lib.Dec.{eqb, ltb}
+use lib.ListN.{length, getD}
+use borrow.Author.Tests.{eqb-true, eqb-false, eq-eqb, ne-eqb, ltb-true, ltb-false, le-ltb}
+use Rattle.grid.specs.declared.Axes.{Axes}
+use Rattle.grid.specs.declared.Checked.{Checked}
+use Rattle.grid.specs.declared.Checked.the-variants.{Fine, Fault}
+use Rattle.grid.specs.declared.LabelSet.{LabelSet}
+use Rattle.grid.specs.declared.Refusal.{Refusal}
+use Rattle.grid.specs.Answers.{faultAt, faultIf, _andThen_}
+use Rattle.grid.specs.First.{firstNot}
+use Rattle.grid.specs.Grid.{Axis, Sound, cells}
+use Rattle.grid.specs.Checks.{badAxis, axesFault, lengthFault, gridFault, takes, labelsFault}
+use Rattle.grid.proofs.First.{before-first}
+
+-- ---- a row of checks
+
+pub fault-here : (b : Bool) (n k : ℕ) (g : Checked) → b ≡ true → faultAt n k ≡ faultIf b n k g
+fault-here true n k g h = refl
+fault-here false n k g h = absurd (false≢true h)
+
+pub fault-not : (b : Bool) (n k : ℕ) (g : Checked) → b ≡ false → g ≡ faultIf b n k g
+fault-not true n k g h = absurd (true≢false h)
+fault-not false n k g h = refl
+
+pub no-fault : (f : Refusal) → Fault f ≡ Fine → ⊥
+no-fault f e = let z : _≡_ {A = ℕ} 0 1 = cc in omega arith
+
+-- no fault in a row says that no test of it holds
+pub passed : (b : Bool) (n k : ℕ) (g : Checked) → faultIf b n k g ≡ Fine → (b ≡ false) × (g ≡ Fine)
+passed true n k g h = absurd (no-fault (record { number = n; place = k }) h)
+passed false n k g h = (refl, h)
+
+pub both-fine : (a b : Checked) → (a andThen b) ≡ Fine → (a ≡ Fine) × (b ≡ Fine)
+both-fine (Fault f) b h = absurd (no-fault f h)
+both-fine Fine b h = (refl, h)
+
+-- ---- 8
+
+or-false : (a b : Bool) → (a || b) ≡ false → (a ≡ false) × (b ≡ false)
+or-false true b h = absurd (true≢false h)
+or-false false b h = (refl, h)
+
+axis-fine : (n : ℕ) → badAxis n ≡ false → Axis n
+axis-fine n h =
+    let p = or-false (eqb n 0) (ltb 256 n) h in
+    let z = eqb-false n 0 (p .0) in
+    record { some = omega arith; most = ltb-false 256 n (p .1) }
+
+fine-axis : (n : ℕ) → Axis n → badAxis n ≡ false
+fine-axis n h = ap (λ (b : Bool). b || ltb 256 n) (ne-eqb n 0 (λ e. omega (arith, h .some))) ∙ le-ltb 256 n (h .most)
+
+-- no axis is at fault exactly if each has 1 to 256 cells
+pub axes-fine : (r : Axes) → (axesFault r ≡ Fine) ↔ Sound r
+axes-fine r = (from, back)
+  where
+    from : axesFault r ≡ Fine → Sound r
+    from h =
+        let x = passed (badAxis (r .r0)) 8 0 _ h in
+        let y = passed (badAxis (r .r1)) 8 1 _ (x .1) in
+        let z = passed (badAxis (r .r2)) 8 2 _ (y .1) in
+        record { axis0 = axis-fine (r .r0) (x .0); axis1 = axis-fine (r .r1) (y .0); axis2 = axis-fine (r .r2) (z .0) }
+
+    back : Sound r → axesFault r ≡ Fine
+    back s =
+        sym
+        (fault-not (badAxis (r .r2)) 8 2 Fine (fine-axis (r .r2) (s .axis2))
+        ∙ fault-not (badAxis (r .r1)) 8 1 _ (fine-axis (r .r1) (s .axis1))
+        ∙ fault-not (badAxis (r .r0)) 8 0 _ (fine-axis (r .r0) (s .axis0)))
+
+-- ---- 9
+
+not-false : (b : Bool) → not b ≡ false → b ≡ true
+not-false true h = refl
+not-false false h = absurd (true≢false h)
+
+pub length-fine : (r : Axes) (n : ℕ) → (lengthFault r n ≡ Fine) ↔ (n ≡ cells r)
+length-fine r n = (
+  (λ h. eqb-true n (cells r) (not-false (eqb n (cells r)) (passed (not (eqb n (cells r))) 9 0 Fine h .0))),
+  (λ e. sym (fault-not (not (eqb n (cells r))) 9 0 Fine (ap not (eq-eqb n (cells r) e)))),
+)
+
+-- ---- 11
+
+pub labels-fine : (s : LabelSet) (l : List ℕ) → labelsFault s l ≡ Fine → (n : ℕ) → n < length l → takes s (getD l n 0) ≡ true
+labels-fine s l h n k =
+    let p = firstNot (takes s) l in
+    let q = ltb-false p (length l) (passed (ltb p (length l)) 11 p Fine h .0) in
+    before-first (takes s) 0 l n (omega (arith, q))

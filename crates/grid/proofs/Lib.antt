@@ -1,0 +1,4 @@
+pub mod First
+pub mod Cells
+pub mod Paths
+pub mod Checks

@@ -1,0 +1,30 @@
+-- What a call answers in 01's terms, and how checks make an answer. Definitions only.
+use Prim.Native.Nat.{ℕ}
+use mathlib.Core.Bool.{Bool, true, false}
+use Rattle.grid.specs.declared.Checked.{Checked}
+use Rattle.grid.specs.declared.Checked.the-variants.{Fine, Fault}
+
+-- 01, demand 1: "in an answer or a numbered refusal. A refusal gives number and place." Each call's enum has a definition that says which of these its cases are
+pub data Outcome (A : Type 0) : Type 0 where
+  answers : A → Outcome A
+  refuses : ℕ → ℕ → Outcome A
+
+-- the fault with this number and place
+abbrev pub faultAt : ℕ → ℕ → Checked
+faultAt n place = Fault (record { number = n; place = place })
+
+-- that fault where the test holds, and otherwise what the checks after it find
+abbrev pub faultIf : Bool → ℕ → ℕ → Checked → Checked
+faultIf true n place rest = faultAt n place
+faultIf false n place rest = rest
+
+-- 01, Input bounds and refusals: "The lowest applicable number is given". The checks of a call stand in the order of their numbers, and the first that finds a fault decides
+infixr 3 _andThen_
+abbrev pub _andThen_ : Checked → Checked → Checked
+_andThen_ (Fault f) rest = Fault f
+_andThen_ Fine rest = rest
+
+-- what a call answers after its checks
+abbrev pub unless : {A : Type 0} → Checked → Outcome A → Outcome A
+unless (Fault f) o = refuses (f .number) (f .place)
+unless Fine o = o

@@ -1,0 +1,38 @@
+-- The refusals 8, 9 and 11 of 01's table. Definitions only.
+use Prim.Native.Nat.{ℕ}
+use mathlib.Core.Bool.{Bool, not, _&&_, _||_}
+use mathlib.Core.List.{List}
+use lib.Dec.{eqb, ltb}
+use lib.ListN.{length}
+use Rattle.grid.specs.declared.Axes.{Axes}
+use Rattle.grid.specs.declared.Checked.{Checked}
+use Rattle.grid.specs.declared.Checked.the-variants.{Fine}
+use Rattle.grid.specs.declared.LabelSet.{LabelSet}
+use Rattle.grid.specs.Answers.{faultIf, _andThen_}
+use Rattle.grid.specs.First.{firstNot}
+use Rattle.grid.specs.Grid.{cells}
+
+-- "8: an axis of 0 or more than 256 cells"; the place is the axis
+abbrev pub badAxis : ℕ → Bool
+badAxis n = eqb n 0 || ltb 256 n
+
+abbrev pub axesFault : Axes → Checked
+axesFault r = faultIf (badAxis (r .r0)) 8 0 (faultIf (badAxis (r .r1)) 8 1 (faultIf (badAxis (r .r2)) 8 2 Fine))
+
+-- "9: label buffer length differs from the product of the axes"
+abbrev pub lengthFault : Axes → ℕ → Checked
+lengthFault r len = faultIf (not (eqb len (cells r))) 9 0 Fine
+
+abbrev pub gridFault : Axes → ℕ → Checked
+gridFault r len = axesFault r andThen lengthFault r len
+
+-- a label of the set: one of 0 to 8 that the set has
+abbrev pub takes : LabelSet → ℕ → Bool
+takes s v =
+    (((eqb v 0 && s .l0) || (eqb v 1 && s .l1)) || (eqb v 2 && s .l2))
+    || (((eqb v 3 && s .l3) || (eqb v 4 && s .l4)) || (eqb v 5 && s .l5))
+    || (((eqb v 6 && s .l6) || (eqb v 7 && s .l7)) || (eqb v 8 && s .l8))
+
+-- "11: a label the call does not take"; the place is the label's cell number
+abbrev pub labelsFault : LabelSet → List ℕ → Checked
+labelsFault s l = faultIf (ltb (firstNot (takes s) l) (length l)) 11 (firstNot (takes s) l) Fine

@@ -1,0 +1,5 @@
+pub mod Answers
+pub mod First
+pub mod Grid
+pub mod Paths
+pub mod Checks

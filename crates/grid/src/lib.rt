@@ -1,0 +1,164 @@
+// The ground of every call: axes, cells and their numbers, a grid's placement, refusals, and the
+// checks 8, 9 and 11 that calls share.
+ghost use mathlib.Core.Path.{_≡_};
+ghost use lib.ListN.{length};
+ghost use Rattle.grid.specs.Answers.{faultAt};
+ghost use Rattle.grid.specs.First.{firstNot, every};
+ghost use Rattle.grid.specs.Grid.{num, Sound, InGrid, onBorder};
+ghost use Rattle.grid.specs.Checks.{badAxis, axesFault, gridFault, takes, labelsFault};
+
+// How many cells the grid has along i, j and k.
+pub struct Axes {
+    pub r0: usize,
+    pub r1: usize,
+    pub r2: usize,
+}
+
+pub struct Cell {
+    pub i: usize,
+    pub j: usize,
+    pub k: usize,
+}
+
+// Where a grid stands: its origin, its cells' side, and 1 / side rounded once. They travel together.
+pub struct Placement {
+    pub x: f32,
+    pub y: f32,
+    pub z: f32,
+    pub scale: f32,
+    pub reciprocal: f32,
+}
+
+// A refusal's number in the table of refusals, and its place.
+pub struct Refusal {
+    pub number: u8,
+    pub place: usize,
+}
+
+// What a check finds.
+pub enum Checked {
+    Fine,
+    Fault(Refusal),
+}
+
+// Which of the labels 0 to 8 a call takes.
+pub struct LabelSet {
+    pub l0: bool,
+    pub l1: bool,
+    pub l2: bool,
+    pub l3: bool,
+    pub l4: bool,
+    pub l5: bool,
+    pub l6: bool,
+    pub l7: bool,
+    pub l8: bool,
+}
+
+// The number of a cell.
+pub fn number(r: Axes, c: Cell) -> usize
+    requires { ⌜ InGrid r c ⌝ }
+    requires { ⌜ Sound r ⌝ }
+    ensures { λ n. ⌜ n ≡ num r c ⌝ }
+{
+    c.i + c.j * r.r0 + c.k * (r.r0 * r.r1)
+}
+
+// Whether a cell lies on a face of the grid.
+pub fn on_border(r: Axes, c: Cell) -> bool
+    requires { ⌜ InGrid r c ⌝ }
+    ensures { λ b. ⌜ b ≡ onBorder r c ⌝ }
+{
+    let low = (c.i == 0) | (c.j == 0) | (c.k == 0);
+    low | (r.r0 - c.i == 1) | (r.r1 - c.j == 1) | (r.r2 - c.k == 1)
+}
+
+fn bad_axis(n: usize) -> bool
+    ensures { λ b. ⌜ b ≡ badAxis n ⌝ }
+{
+    (n == 0) | (256 < n)
+}
+
+pub fn fault(number: u8, place: usize) -> Checked
+    ensures { λ f. ⌜ f ≡ faultAt number place ⌝ }
+{
+    Checked::Fault(Refusal { number, place })
+}
+
+// Refusal 8: the first axis of 0 or more than 256 cells.
+pub fn axes_fault(r: Axes) -> Checked
+    ensures { λ f. ⌜ f ≡ axesFault r ⌝ }
+{
+    if bad_axis(r.r0) {
+        return fault(8, 0);
+    }
+    if bad_axis(r.r1) {
+        return fault(8, 1);
+    }
+    if bad_axis(r.r2) {
+        return fault(8, 2);
+    }
+    Checked::Fine
+}
+
+// Refusals 8 and 9 of axes and a label buffer's length.
+pub fn grid_fault(r: Axes, len: usize) -> Checked
+    ensures { λ f. ⌜ f ≡ gridFault r len ⌝ }
+{
+    match axes_fault(r) {
+        Checked::Fault(f) => Checked::Fault(f),
+        Checked::Fine => {
+            if len == r.r0 * r.r1 * r.r2 {
+                return Checked::Fine;
+            }
+            fault(9, 0)
+        }
+    }
+}
+
+fn taken(set: LabelSet, v: u8) -> bool
+    ensures { λ b. ⌜ b ≡ takes set v ⌝ }
+{
+    let low = ((v == 0) & set.l0) | ((v == 1) & set.l1) | ((v == 2) & set.l2);
+    let middle = ((v == 3) & set.l3) | ((v == 4) & set.l4) | ((v == 5) & set.l5);
+    let high = ((v == 6) & set.l6) | ((v == 7) & set.l7) | ((v == 8) & set.l8);
+    low | middle | high
+}
+
+// Whether every label is in the set. The loop has no way out, so that it runs at the speed of a plain
+// pass over the memory.
+fn all_taken(labels: &[u8], set: LabelSet) -> bool
+    ensures { λ b. ⌜ b ≡ every (takes set) (now (labels .entry)) ⌝ }
+{
+    let mut all = true;
+    let mut i = 0usize;
+    while i < labels.len() {
+        all = all & taken(set, labels[i]);
+        i += 1;
+    }
+    all
+}
+
+// The place of the first label that is not in the set, or the length.
+fn first_not_taken(labels: &[u8], set: LabelSet) -> usize
+    ensures { λ n. ⌜ n ≡ firstNot (takes set) (now (labels .entry)) ⌝ }
+{
+    let mut i = 0usize;
+    while i < labels.len() {
+        if taken(set, labels[i]) {
+            i += 1;
+        } else {
+            return i;
+        }
+    }
+    i
+}
+
+// Refusal 11: the first label, in the order of cell numbers, that the set does not have.
+pub fn labels_fault(labels: &[u8], set: LabelSet) -> Checked
+    ensures { λ f. ⌜ f ≡ labelsFault set (now (labels .entry)) ⌝ }
+{
+    if all_taken(labels, set) {
+        return Checked::Fine;
+    }
+    fault(11, first_not_taken(labels, set))
+}
