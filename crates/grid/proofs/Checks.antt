@@ -13,7 +13,7 @@ use Rattle.grid.specs.declared.Checked.{Checked}
 use Rattle.grid.specs.declared.Checked.the-variants.{Fine, Fault}
 use Rattle.grid.specs.declared.LabelSet.{LabelSet}
 use Rattle.grid.specs.declared.Refusal.{Refusal}
-use Rattle.grid.specs.Answers.{faultAt, faultIf, _andThen_}
+use Rattle.grid.specs.Answers.{Outcome, refuses, faultAt, faultIf, _andThen_, unless}
 use Rattle.grid.specs.First.{firstNot}
 use Rattle.grid.specs.Grid.{Axis, Sound, cells}
 use Rattle.grid.specs.Checks.{badAxis, axesFault, lengthFault, gridFault, takes, labelsFault}
@@ -40,6 +40,15 @@ passed false n k g h = (refl, h)
 pub both-fine : (a b : Checked) → (a andThen b) ≡ Fine → (a ≡ Fine) × (b ≡ Fine)
 both-fine (Fault f) b h = absurd (no-fault f h)
 both-fine Fine b h = (refl, h)
+
+-- a call that is refused by one check, or passes it
+pub refused-here : {A : Type 0} (b : Bool) (n k : ℕ) (o : Outcome A) → b ≡ true → refuses n k ≡ unless (faultIf b n k Fine) o
+refused-here true n k o h = refl
+refused-here false n k o h = absurd (false≢true h)
+
+pub refused-not : {A : Type 0} (b : Bool) (n k : ℕ) (o : Outcome A) → b ≡ false → o ≡ unless (faultIf b n k Fine) o
+refused-not true n k o h = absurd (true≢false h)
+refused-not false n k o h = refl
 
 -- ---- 8
 

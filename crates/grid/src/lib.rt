@@ -2,7 +2,7 @@
 // checks 8, 9 and 11 that calls share.
 ghost use mathlib.Core.Path.{_≡_};
 ghost use lib.ListN.{length};
-ghost use Rattle.grid.specs.Answers.{faultAt};
+ghost use Rattle.grid.specs.Answers.{faultAt, _andThen_};
 ghost use Rattle.grid.specs.First.{firstNot, every};
 ghost use Rattle.grid.specs.Grid.{num, Sound, InGrid, onBorder};
 ghost use Rattle.grid.specs.Checks.{badAxis, axesFault, gridFault, takes, labelsFault};
@@ -82,6 +82,16 @@ pub fn fault(number: u8, place: usize) -> Checked
     ensures { λ f. ⌜ f ≡ faultAt number place ⌝ }
 {
     Checked::Fault(Refusal { number, place })
+}
+
+// The first of two faults: checks stand in the order of their numbers.
+pub fn and_then(a: Checked, b: Checked) -> Checked
+    ensures { λ f. ⌜ f ≡ (a andThen b) ⌝ }
+{
+    match a {
+        Checked::Fault(f) => Checked::Fault(f),
+        Checked::Fine => b,
+    }
 }
 
 // Refusal 8: the first axis of 0 or more than 256 cells.

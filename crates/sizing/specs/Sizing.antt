@@ -1,0 +1,210 @@
+-- 01, Sizing and placement, of the list of the points' numbers, three to a point. Each operation on floats is IEEE 754's on an f32, rounded once, in the order given. Definitions only.
+use Prim.Native.Nat.{ℕ, zero, suc, _+_, _-_, _*_, _/_, _<_}
+use mathlib.Core.Bool.{Bool, true, false, not, cond, _&&_, _||_}
+use mathlib.Core.Path.{_≡_}
+use mathlib.Core.List.{List}
+use lib.ListN.{length, getD}
+use lib.Dec.{leb, ltb, eqb}
+use lib.IntN.{ℤ, pos, negsuc, _+ℤ_}
+use lib.Ieee.{Float, nan, fin, binary32, lt, le, sub, mul, div, ofInt}
+use Rattle.numbers.specs.declared.Whole.{Whole}
+use Rattle.numbers.specs.declared.Whole.the-variants.{Of, TooLarge, NotANumber}
+use Rattle.numbers.specs.Rounding.{ceilOf, truncOf}
+use Rattle.grid.specs.declared.Axes.{Axes}
+use Rattle.grid.specs.declared.Placement.{Placement}
+use Rattle.grid.specs.declared.Checked.{Checked}
+use Rattle.grid.specs.declared.Checked.the-variants.{Fine}
+use Rattle.grid.specs.Answers.{Outcome, answers, refuses, faultIf, _andThen_, unless}
+use Rattle.grid.specs.Checks.{axesFault}
+use Rattle.sizing.specs.declared.Point.{Point}
+use Rattle.sizing.specs.declared.Span.{Span}
+use Rattle.sizing.specs.declared.Spans.{Spans}
+use Rattle.sizing.specs.declared.Sized.{Sized}
+use Rattle.sizing.specs.declared.Sized.the-variants.{Grid, Refused}
+use Rattle.sizing.specs.Points.{pointsFault}
+
+-- ---- the answer
+
+-- where a grid lies
+pub record Laid : Type 0 where
+  pub axes : Axes
+  pub placement : Placement
+
+-- 01's number and values for each case of `Sized`
+abbrev pub outcome : Sized → Outcome Laid
+outcome (Grid a p) = answers (record { axes = a; placement = p })
+outcome (Refused f) = refuses (f .number) (f .place)
+
+-- ---- the points
+
+-- how many points there are, and coordinate a of point i: 0 for x, 1 for y, 2 for z
+abbrev pub points : List Float → ℕ
+points ps = length ps / 3
+
+abbrev pub coord : List Float → ℕ → ℕ → Float
+coord ps a i = getD ps (3 * i + a) nan
+
+abbrev pub pointAt : List Float → ℕ → Point
+pointAt ps i = record { x = coord ps 0 i; y = coord ps 1 i; z = coord ps 2 i }
+
+-- "Origin is the smallest x, y and z; of equal values the earliest point's bits." What that means of a coordinate
+pub record Smallest (ps : List Float) (a : ℕ) (v : Float) : Type 0 where
+  pub point : ℕ
+  pub is-point : point < points ps
+  pub value : v ≡ coord ps a point
+  pub earliest : (j : ℕ) → j < point → lt v (coord ps a j) ≡ true
+  pub least : (j : ℕ) → j < points ps → le v (coord ps a j) ≡ true
+
+-- the greatest, for the extents
+pub record Greatest (ps : List Float) (a : ℕ) (v : Float) : Type 0 where
+  pub point : ℕ
+  pub is-point : point < points ps
+  pub value : v ≡ coord ps a point
+  pub most : (j : ℕ) → j < points ps → le (coord ps a j) v ≡ true
+
+-- how they are found: of an earlier a and a later b the lower and the upper, of equal ones a
+abbrev pub lower : Float → Float → Float
+lower a b = cond (lt b a) b a
+
+abbrev pub upper : Float → Float → Float
+upper a b = cond (lt a b) b a
+
+-- a span and one number more; of a single point; and of the points 0 to n, one after the other
+abbrev pub spanWith : Span → Float → Span
+spanWith s p = record { lo = lower (s .lo) p; hi = upper (s .hi) p }
+
+abbrev pub spansWith : Spans → Point → Spans
+spansWith s p = record { x = spanWith (s .x) (p .x); y = spanWith (s .y) (p .y); z = spanWith (s .z) (p .z) }
+
+abbrev pub spansAt : Point → Spans
+spansAt p = record { x = record { lo = p .x; hi = p .x }; y = record { lo = p .y; hi = p .y }; z = record { lo = p .z; hi = p .z } }
+
+unfoldable pub spansTo : List Float → ℕ → Spans
+spansTo ps zero = spansAt (pointAt ps 0)
+spansTo ps (suc n) = spansWith (spansTo ps n) (pointAt ps (suc n))
+
+-- the smallest and the greatest of each coordinate
+abbrev pub spansOf : List Float → Spans
+spansOf ps = spansTo ps (points ps - 1)
+
+-- max - min
+abbrev pub extent : Span → Float
+extent s = sub binary32 (s .hi) (s .lo)
+
+-- ---- "Placement: origin, scale and its reciprocal travel together."
+
+abbrev pub placedAt : Spans → Float → Placement
+placedAt s scale =
+    record { x = s .x .lo; y = s .y .lo; z = s .z .lo; scale = scale; reciprocal = div binary32 (fin false 1 (pos 0)) scale }
+
+-- ---- "By cell size: axis = max(ceil((max - min) / size), 2) + 1; scale = size."
+
+-- 2 ^ -10 and 2 ^ 20
+abbrev pub leastSize : Float
+leastSize = fin false 1 (negsuc 9)
+
+abbrev pub greatestSize : Float
+greatestSize = fin false 1 (pos 20)
+
+-- "5: cell size not within 2^-10 to 2^20, ends included"
+abbrev pub sizeFault : Float → Checked
+sizeFault size = faultIf (not (le leastSize size && le size greatestSize)) 5 0 Fine
+
+abbrev pub larger : ℕ → ℕ → ℕ
+larger a b = cond (leb a b) b a
+
+-- a whole number, 0 for those below 0
+abbrev pub natural : ℤ → ℕ
+natural (pos n) = n
+natural (negsuc n) = 0
+
+-- a quotient that is no whole number under 2 ^ 40 is no axis: it has more than 256 cells
+abbrev pub beyond : ℕ
+beyond = 257
+
+-- max(n, 2) + 1
+unfoldable pub cellsOf : Whole → ℕ
+cellsOf (Of z) = larger (natural z) 2 + 1
+cellsOf TooLarge = beyond
+cellsOf NotANumber = beyond
+
+abbrev pub axisBySize : Span → Float → ℕ
+axisBySize s size = cellsOf (ceilOf (div binary32 (extent s) size))
+
+abbrev pub sizeAxes : Spans → Float → Axes
+sizeAxes s size = record { r0 = axisBySize (s .x) size; r1 = axisBySize (s .y) size; r2 = axisBySize (s .z) size }
+
+-- a grid of these axes at this place, if no axis is at fault
+abbrev pub gridOf : Axes → Placement → Outcome Laid
+gridOf a p = unless (axesFault a) (answers (record { axes = a; placement = p }))
+
+abbrev pub sizeGrid : Spans → Float → Outcome Laid
+sizeGrid s size = gridOf (sizeAxes s size) (placedAt s size)
+
+-- the whole call: 1, 2, 3, 5, 8
+abbrev pub bySize : List Float → Float → Outcome Laid
+bySize ps size = unless (pointsFault ps andThen sizeFault size) (sizeGrid (spansOf ps) size)
+
+-- ---- "By resolution R, with extents d"
+
+-- "6: resolution under 2 or over 254"
+abbrev pub resolutionFault : ℕ → Checked
+resolutionFault r = faultIf (ltb r 2 || ltb 254 r) 6 0 Fine
+
+abbrev pub tops : Float → Float → Float → Bool
+tops a b c = le b a && le c a
+
+-- "the main axis is x if dx >= dy and dx >= dz; else y if dy >= dx and dy >= dz; else z"
+abbrev pub mainAxis : Float → Float → Float → ℕ
+mainAxis dx dy dz = cond (tops dx dy dz) 0 (cond (tops dy dx dz) 1 2)
+
+-- the extent of axis m
+abbrev pub extentAt : ℕ → Float → Float → Float → Float
+extentAt m dx dy dz = cond (eqb m 0) dx (cond (eqb m 1) dy dz)
+
+-- "7: resolution way: largest extent under 2^-10"
+abbrev pub leastExtent : Float
+leastExtent = fin false 1 (negsuc 9)
+
+abbrev pub extentFault : Float → Checked
+extentFault dmain = faultIf (lt dmain leastExtent) 7 0 Fine
+
+-- a count as an f32
+abbrev pub countOf : ℕ → Float
+countOf r = ofInt binary32 (pos r)
+
+-- 2 + n
+unfoldable pub twoMore : Whole → ℕ
+twoMore (Of z) = natural (z +ℤ pos 2)
+twoMore TooLarge = beyond
+twoMore NotANumber = beyond
+
+-- "Main axis R; each other axis 2 + trunc((R * d) / dmain)."
+abbrev pub axisByResolution : ℕ → ℕ → ℕ → Float → Float → ℕ
+axisByResolution r m a d dmain = cond (eqb m a) r (twoMore (truncOf (div binary32 (mul binary32 (countOf r) d) dmain)))
+
+-- the main axis of some spans, and its extent
+abbrev pub mainOf : Spans → ℕ
+mainOf s = mainAxis (extent (s .x)) (extent (s .y)) (extent (s .z))
+
+abbrev pub dmainOf : Spans → Float
+dmainOf s = extentAt (mainOf s) (extent (s .x)) (extent (s .y)) (extent (s .z))
+
+abbrev pub resolutionAxes : Spans → ℕ → Axes
+resolutionAxes s r =
+    record {
+      r0 = axisByResolution r (mainOf s) 0 (extent (s .x)) (dmainOf s);
+      r1 = axisByResolution r (mainOf s) 1 (extent (s .y)) (dmainOf s);
+      r2 = axisByResolution r (mainOf s) 2 (extent (s .z)) (dmainOf s);
+    }
+
+-- "scale = dmain / (R - 1)"
+abbrev pub resolutionScale : Spans → ℕ → Float
+resolutionScale s r = div binary32 (dmainOf s) (countOf (r - 1))
+
+abbrev pub resolutionGrid : Spans → ℕ → Outcome Laid
+resolutionGrid s r = unless (extentFault (dmainOf s)) (gridOf (resolutionAxes s r) (placedAt s (resolutionScale s r)))
+
+-- the whole call: 1, 2, 3, 6, 7; and 8, which proofs/Ranges.antt shows never to happen
+abbrev pub byResolution : List Float → ℕ → Outcome Laid
+byResolution ps r = unless (pointsFault ps andThen resolutionFault r) (resolutionGrid (spansOf ps) r)

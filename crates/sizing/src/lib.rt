@@ -1,0 +1,369 @@
+// Axes and placement of a grid over points, by cell size and by resolution, and the refusals of lent
+// points.
+ghost use mathlib.Core.Path.{_≡_};
+ghost use Prim.Native.Nat.{_+_, _*_, _≤_, _<_};
+ghost use lib.ListN.{length};
+ghost use Rattle.grid.specs.First.{firstNot, every};
+ghost use Rattle.sizing.specs.Points.{bounded, lengthFault, noneFault, numbersFault, pointsFault};
+ghost use Rattle.sizing.specs.Sizing.{outcome, lower, upper, pointAt, spansAt, spanWith, spansWith, spansOf, placedAt, sizeFault, cellsOf, axisBySize, gridOf, sizeGrid, bySize, resolutionFault, tops, mainAxis, extentAt, twoMore, countOf, axisByResolution, resolutionGrid, byResolution};
+use grid::Axes;
+use grid::Checked;
+use grid::Placement;
+use grid::Refusal;
+use numbers::Whole;
+
+// What sizing answers.
+pub enum Sized {
+    Grid(Axes, Placement),
+    Refused(Refusal),
+}
+
+pub struct Point {
+    pub x: f32,
+    pub y: f32,
+    pub z: f32,
+}
+
+// The smallest and the greatest of some numbers.
+pub struct Span {
+    pub lo: f32,
+    pub hi: f32,
+}
+
+// The spans of the points' three coordinates.
+pub struct Spans {
+    pub x: Span,
+    pub y: Span,
+    pub z: Span,
+}
+
+// ---- lent points
+
+// At most 2 ^ 20 in magnitude; a NaN is not.
+fn in_bounds(x: f32) -> bool
+    ensures { λ r. ⌜ r ≡ bounded 20 x ⌝ }
+{
+    (-1048576.0 <= x) & (x <= 1048576.0)
+}
+
+// The loop has no way out, so that it runs at the speed of a plain pass over the memory.
+fn all_in_bounds(ps: &[f32]) -> bool
+    ensures { λ r. ⌜ r ≡ every (bounded 20) (now (ps .entry)) ⌝ }
+{
+    let mut all = true;
+    let mut i = 0usize;
+    while i < ps.len() {
+        all = all & in_bounds(ps[i]);
+        i += 1;
+    }
+    all
+}
+
+// The place of the first number that is out of bounds, or the length.
+fn first_out(ps: &[f32]) -> usize
+    ensures { λ r. ⌜ r ≡ firstNot (bounded 20) (now (ps .entry)) ⌝ }
+{
+    let mut i = 0usize;
+    while i < ps.len() {
+        if in_bounds(ps[i]) {
+            i += 1;
+        } else {
+            return i;
+        }
+    }
+    i
+}
+
+// Refusal 3 of points whose numbers are counted after `before` others.
+pub fn numbers_fault(ps: &[f32], before: u8) -> Checked
+    ensures { λ r. ⌜ r ≡ numbersFault before (now (ps .entry)) ⌝ }
+{
+    if all_in_bounds(ps) {
+        return Checked::Fine;
+    }
+    grid::fault(3, before as usize + first_out(ps))
+}
+
+// Refusal 1 of the length of a list of points or triangles.
+pub fn length_fault(n: usize) -> Checked
+    ensures { λ r. ⌜ r ≡ lengthFault n ⌝ }
+{
+    if (n % 3 != 0) | (65536 < n / 3) {
+        return grid::fault(1, 0);
+    }
+    Checked::Fine
+}
+
+// Refusal 2 of the length of a list of points.
+pub fn none_fault(n: usize) -> Checked
+    ensures { λ r. ⌜ r ≡ noneFault n ⌝ }
+{
+    if n == 0 {
+        return grid::fault(2, 0);
+    }
+    Checked::Fine
+}
+
+// Refusals 1, 2 and 3 of a list of points.
+fn points_fault(ps: &[f32]) -> Checked
+    ensures { λ r. ⌜ r ≡ pointsFault (now (ps .entry)) ⌝ }
+{
+    let lengths = length_fault(ps.len());
+    let none = none_fault(ps.len());
+    let numbers = numbers_fault(ps, 0);
+    grid::and_then(lengths, grid::and_then(none, numbers))
+}
+
+fn least(a: f32, b: f32) -> f32
+    ensures { λ r. ⌜ r ≡ lower a b ⌝ }
+{
+    if b < a { b } else { a }
+}
+
+fn greatest(a: f32, b: f32) -> f32
+    ensures { λ r. ⌜ r ≡ upper a b ⌝ }
+{
+    if a < b { b } else { a }
+}
+
+// Point i.
+fn point_at(ps: &[f32], i: usize) -> Point
+    requires { ⌜ 3 * i + 2 < length (now ps) ⌝ }
+    ensures { λ r. ⌜ r ≡ pointAt (now (ps .entry)) i ⌝ }
+{
+    let at = 3 * i;
+    Point {
+        x: ps[at],
+        y: ps[at + 1],
+        z: ps[at + 2],
+    }
+}
+
+fn single(p: Point) -> Spans
+    ensures { λ r. ⌜ r ≡ spansAt p ⌝ }
+{
+    let x = Span { lo: p.x, hi: p.x };
+    let y = Span { lo: p.y, hi: p.y };
+    let z = Span { lo: p.z, hi: p.z };
+    Spans { x, y, z }
+}
+
+fn widened(s: Span, p: f32) -> Span
+    ensures { λ r. ⌜ r ≡ spanWith s p ⌝ }
+{
+    let lo = least(s.lo, p);
+    let hi = greatest(s.hi, p);
+    Span { lo, hi }
+}
+
+fn widened_by(s: Spans, p: Point) -> Spans
+    ensures { λ r. ⌜ r ≡ spansWith s p ⌝ }
+{
+    let x = widened(s.x, p.x);
+    let y = widened(s.y, p.y);
+    let z = widened(s.z, p.z);
+    Spans { x, y, z }
+}
+
+// The smallest and the greatest x, y and z; of equal ones the earliest.
+fn spans_of(ps: &[f32]) -> Spans
+    requires { ⌜ 3 ≤ length (now ps) ⌝ }
+    ensures { λ r. ⌜ r ≡ spansOf (now (ps .entry)) ⌝ }
+{
+    let n = ps.len() / 3;
+    let mut s = single(point_at(ps, 0));
+    let mut i = 0usize;
+    while i + 1 < n {
+        i += 1;
+        s = widened_by(s, point_at(ps, i));
+    }
+    s
+}
+
+fn placed(s: Spans, scale: f32) -> Placement
+    ensures { λ r. ⌜ r ≡ placedAt s scale ⌝ }
+{
+    Placement {
+        x: s.x.lo,
+        y: s.y.lo,
+        z: s.z.lo,
+        scale,
+        reciprocal: 1.0 / scale,
+    }
+}
+
+// The grid of these axes at this place, or refusal 8.
+fn graded(a: Axes, p: Placement) -> Sized
+    ensures { λ r. ⌜ outcome r ≡ gridOf a p ⌝ }
+{
+    match grid::axes_fault(a) {
+        Checked::Fault(f) => Sized::Refused(f),
+        Checked::Fine => Sized::Grid(a, p),
+    }
+}
+
+// ---- by cell size
+
+// Refusal 5 of a cell size.
+fn size_fault(size: f32) -> Checked
+    ensures { λ r. ⌜ r ≡ sizeFault size ⌝ }
+{
+    if (0.0009765625 <= size) & (size <= 1048576.0) {
+        return Checked::Fine;
+    }
+    grid::fault(5, 0)
+}
+
+// max(n, 2) + 1
+fn cells(w: Whole) -> usize
+    ensures { λ r. ⌜ r ≡ cellsOf w ⌝ }
+{
+    match w {
+        Whole::Of(n) => {
+            if n <= 2 {
+                return 3;
+            }
+            n as usize + 1
+        }
+        Whole::TooLarge => 257,
+        Whole::NotANumber => 257,
+    }
+}
+
+fn axis_by_size(s: Span, size: f32) -> usize
+    ensures { λ r. ⌜ r ≡ axisBySize s size ⌝ }
+{
+    cells(numbers::ceil((s.hi - s.lo) / size))
+}
+
+fn size_grid(s: Spans, size: f32) -> Sized
+    ensures { λ r. ⌜ outcome r ≡ sizeGrid s size ⌝ }
+{
+    let r0 = axis_by_size(s.x, size);
+    let r1 = axis_by_size(s.y, size);
+    let r2 = axis_by_size(s.z, size);
+    graded(Axes { r0, r1, r2 }, placed(s, size))
+}
+
+// The grid over the points with cells of this size.
+pub fn by_size(points: &[f32], size: f32) -> Sized
+    ensures { λ r. ⌜ outcome r ≡ bySize (now (points .entry)) size ⌝ }
+{
+    match grid::and_then(points_fault(points), size_fault(size)) {
+        Checked::Fault(f) => Sized::Refused(f),
+        Checked::Fine => size_grid(spans_of(points), size),
+    }
+}
+
+// ---- by resolution
+
+// Refusal 6 of a resolution.
+fn resolution_fault(r: u32) -> Checked
+    ensures { λ e. ⌜ e ≡ resolutionFault r ⌝ }
+{
+    if (r < 2) | (254 < r) {
+        return grid::fault(6, 0);
+    }
+    Checked::Fine
+}
+
+// Whether a is at least b and at least c.
+fn at_least(a: f32, b: f32, c: f32) -> bool
+    ensures { λ r. ⌜ r ≡ tops a b c ⌝ }
+{
+    (a >= b) & (a >= c)
+}
+
+fn main_axis(dx: f32, dy: f32, dz: f32) -> u8
+    ensures { λ r. ⌜ r ≡ mainAxis dx dy dz ⌝ }
+{
+    if at_least(dx, dy, dz) {
+        return 0;
+    }
+    if at_least(dy, dx, dz) {
+        return 1;
+    }
+    2
+}
+
+// The extent of the axis m.
+fn extent_at(m: u8, dx: f32, dy: f32, dz: f32) -> f32
+    ensures { λ r. ⌜ r ≡ extentAt m dx dy dz ⌝ }
+{
+    if m == 0 {
+        return dx;
+    }
+    if m == 1 {
+        return dy;
+    }
+    dz
+}
+
+// 2 + n
+fn two_more(w: Whole) -> usize
+    ensures { λ r. ⌜ r ≡ twoMore w ⌝ }
+{
+    match w {
+        Whole::Of(n) => {
+            if n <= -2 {
+                return 0;
+            }
+            if n < 0 {
+                return 1;
+            }
+            n as usize + 2
+        }
+        Whole::TooLarge => 257,
+        Whole::NotANumber => 257,
+    }
+}
+
+// A resolution, or one less, as a float.
+fn counted(r: u32) -> f32
+    requires { ⌜ r ≤ 254 ⌝ }
+    ensures { λ f. ⌜ f ≡ countOf r ⌝ }
+{
+    (r as u16) as f32
+}
+
+// The cells of the axis a, of extent d, where the main axis is m, of extent dmain.
+fn axis_by_resolution(r: u32, m: u8, a: u8, d: f32, dmain: f32) -> usize
+    requires { ⌜ r ≤ 254 ⌝ }
+    ensures { λ n. ⌜ n ≡ axisByResolution r m a d dmain ⌝ }
+{
+    if m == a {
+        return r as usize;
+    }
+    two_more(numbers::trunc(counted(r) * d / dmain))
+}
+
+fn resolution_grid(s: Spans, r: u32) -> Sized
+    requires { ⌜ (2 ≤ r) × (r ≤ 254) ⌝ }
+    ensures { λ e. ⌜ outcome e ≡ resolutionGrid s r ⌝ }
+{
+    let dx = s.x.hi - s.x.lo;
+    let dy = s.y.hi - s.y.lo;
+    let dz = s.z.hi - s.z.lo;
+    let m = main_axis(dx, dy, dz);
+    let dmain = extent_at(m, dx, dy, dz);
+    if dmain < 0.0009765625 {
+        return Sized::Refused(Refusal {
+            number: 7,
+            place: 0,
+        });
+    }
+    let r0 = axis_by_resolution(r, m, 0, dx, dmain);
+    let r1 = axis_by_resolution(r, m, 1, dy, dmain);
+    let r2 = axis_by_resolution(r, m, 2, dz, dmain);
+    graded(Axes { r0, r1, r2 }, placed(s, dmain / counted(r - 1)))
+}
+
+// The grid over the points whose main axis has r cells.
+pub fn by_resolution(points: &[f32], r: u32) -> Sized
+    ensures { λ e. ⌜ outcome e ≡ byResolution (now (points .entry)) r ⌝ }
+{
+    match grid::and_then(points_fault(points), resolution_fault(r)) {
+        Checked::Fault(f) => Sized::Refused(f),
+        Checked::Fine => resolution_grid(spans_of(points), r),
+    }
+}
