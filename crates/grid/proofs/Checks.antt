@@ -5,7 +5,7 @@ use mathlib.Core.Path.{_≡_, refl, sym, ap, _∙_}
 use mathlib.Core.List.{List}
 use Prim.Native.Nat.{ℕ, _*_, _<_, _≤_}
 use native.Mathlib.Omega.{arith}
-use lib.Dec.{eqb, ltb}
+use lib.Dec.{T, eqb, ltb}
 use lib.ListN.{length, getD}
 use borrow.Author.Tests.{eqb-true, eqb-false, eq-eqb, ne-eqb, ltb-true, ltb-false, le-ltb}
 use Rattle.grid.specs.declared.Axes.{Axes}
@@ -13,7 +13,7 @@ use Rattle.grid.specs.declared.Checked.{Checked}
 use Rattle.grid.specs.declared.Checked.the-variants.{Fine, Fault}
 use Rattle.grid.specs.declared.LabelSet.{LabelSet}
 use Rattle.grid.specs.declared.Refusal.{Refusal}
-use Rattle.grid.specs.Answers.{Outcome, refuses, faultAt, faultIf, _andThen_, unless}
+use Rattle.grid.specs.Answers.{Outcome, answers, refuses, faultAt, faultIf, _andThen_, unless, isOneOf, Finds, Gives}
 use Rattle.grid.specs.First.{firstNot}
 use Rattle.grid.specs.Grid.{Axis, Sound, cells}
 use Rattle.grid.specs.Checks.{badAxis, axesFault, lengthFault, gridFault, takes, labelsFault}
@@ -49,6 +49,26 @@ refused-here false n k o h = absurd (false≢true h)
 pub refused-not : {A : Type 0} (b : Bool) (n k : ℕ) (o : Outcome A) → b ≡ false → o ≡ unless (faultIf b n k Fine) o
 refused-not true n k o h = absurd (true≢false h)
 refused-not false n k o h = refl
+
+-- ---- which numbers a row of checks can give
+
+module _ (ns : List ℕ) where
+  pub finds-if : (b : Bool) (n k : ℕ) (g : Checked) → T (isOneOf n ns) → Finds ns g → Finds ns (faultIf b n k g)
+  finds-if true n k g h r = h
+  finds-if false n k g h r = r
+
+  pub finds-then : (a b : Checked) → Finds ns a → Finds ns b → Finds ns (a andThen b)
+  finds-then (Fault f) b h r = h
+  finds-then Fine b h r = r
+
+  pub gives-unless : {A : Type 0} (f : Checked) (o : Outcome A) → Finds ns f → (f ≡ Fine → Gives ns o) → Gives ns (unless f o)
+  gives-unless (Fault f) o h r = h
+  gives-unless Fine o h r = r refl
+
+-- a call that answers passed its checks
+pub answered : {A : Type 0} (f : Checked) (o : Outcome A) (a : A) → unless f o ≡ answers a → (f ≡ Fine) × (o ≡ answers a)
+answered (Fault f) o a h = absurd (let z : _≡_ {A = ℕ} 0 1 = cc in omega arith)
+answered Fine o a h = (refl, h)
 
 -- ---- 8
 

@@ -1,6 +1,8 @@
 -- What a call answers in 01's terms, and how checks make an answer. Definitions only.
 use Prim.Native.Nat.{ℕ}
-use mathlib.Core.Bool.{Bool, true, false}
+use mathlib.Core.Bool.{Bool, true, false, _||_}
+use mathlib.Core.List.{List, [], _∷_}
+use lib.Dec.{T, eqb}
 use Rattle.grid.specs.declared.Checked.{Checked}
 use Rattle.grid.specs.declared.Checked.the-variants.{Fine, Fault}
 
@@ -28,3 +30,19 @@ _andThen_ Fine rest = rest
 abbrev pub unless : {A : Type 0} → Checked → Outcome A → Outcome A
 unless (Fault f) o = refuses (f .number) (f .place)
 unless Fine o = o
+
+-- ---- which numbers a call can give
+
+abbrev pub isOneOf : ℕ → List ℕ → Bool
+isOneOf n [] = false
+isOneOf n (m ∷ ns) = eqb n m || isOneOf n ns
+
+-- a check finds nothing, or a fault with one of these numbers
+abbrev pub Finds : List ℕ → Checked → Type 0
+Finds ns Fine = Unit
+Finds ns (Fault f) = T (isOneOf (f .number) ns)
+
+-- a call answers, or refuses with one of these numbers
+abbrev pub Gives : {A : Type 0} → List ℕ → Outcome A → Type 0
+Gives ns (answers a) = Unit
+Gives ns (refuses n place) = T (isOneOf n ns)

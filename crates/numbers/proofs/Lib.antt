@@ -1,3 +1,4 @@
 pub mod Laws
 pub mod Meaning
+pub mod Order
 pub mod Sign
