@@ -290,7 +290,7 @@ half-low a d h =
 put-back : (a d : ℕ) → d ≤ a → a - d + d ≡ a
 put-back a d h = omega arith
 
-half-of-floor : (a : ℤ) (d : ℕ) → 0 < d → floorZ (a +ℤ pos d) (2 * d) ≡ halved (floorZ a d)
+pub half-of-floor : (a : ℤ) (d : ℕ) → 0 < d → floorZ (a +ℤ pos d) (2 * d) ≡ halved (floorZ a d)
 half-of-floor (pos a) d D = ap pos (quarter (a + d) d ∙ ap (λ (k : ℕ). k / 2) (add-div-right a D))
 half-of-floor (negsuc a) d D = go (ltb a d) refl
   where
@@ -399,3 +399,9 @@ trunc-positive (inf s) h = refl
 trunc-positive (fin false m e) h = ap (λ (k : ℕ). within (m * up e) (down e) (pos (k / down e))) (one-mul (m * up e))
 trunc-positive (fin true m e) h =
     ap (within (m * up e) (down e)) (at-zero (m * up e) (down e) (no-size (m * up e) (0 * down e) (ltb-false 0 (m * up e * 1 + 0 * down e) h)))
+
+-- ---- the cell of a coordinate
+
+pub shr-under : (z : ℤ) (d P : ℕ) → 0 < d → mag z < P * d → mag (shrZ z d) < P
+shr-under (pos a) d P D h = div-lt-iff-lt-mul D .1 h
+shr-under (negsuc a) d P D h = div-lt-iff-lt-mul D .1 h

@@ -1,6 +1,6 @@
 -- What the functions of `numbers` answer, of the exact value of an f32: `fin s m e` is m * 2 ^ e, negative where s is true, and 2 ^ e is the fraction up e / down e.
 -- The meaning of each answer (`IsFloor`, `IsCeil`) and its computation; proofs/Meaning.antt joins them.
-use Prim.Native.Nat.{ℕ, _+_, _*_, _/_, _^_}
+use Prim.Native.Nat.{ℕ, _+_, _-_, _*_, _/_, _^_}
 use mathlib.Core.Bool.{Bool, true, false, not}
 use mathlib.Core.Logic.{_↔_}
 use lib.Dec.{T, ltb}
@@ -50,6 +50,10 @@ splits = 8
 abbrev pub parts : ℕ
 parts = 2 ^ splits
 
+-- half a side
+abbrev pub half : ℕ
+half = 2 ^ (splits - 1)
+
 -- ---- computation
 
 -- a / d rounded down, for a d above 0: -(a + 1) / d rounded down is -(a / d) - 1
@@ -91,3 +95,7 @@ unfoldable pub nearestOf : ℕ → Float → Whole
 nearestOf k nan = NotANumber
 nearestOf k (inf s) = TooLarge
 nearestOf k (fin s m e) = within (m * up e) (down e) (floorZ (signed s (2 * k * (m * up e)) +ℤ pos (down e)) (2 * down e))
+
+-- 01, Sizing and placement: "Its cell is (q + 128) div 256, rounded down."
+abbrev pub cellOf : ℤ → ℤ
+cellOf q = floorZ (q +ℤ pos half) parts

@@ -2,7 +2,7 @@
 // cell's side that is nearest. Each has an answer for every f32.
 ghost use mathlib.Core.Path.{_≡_};
 ghost use Prim.Native.Nat.{_*_, _^_, _≤_, _<_};
-ghost use Rattle.numbers.specs.Rounding.{signed, floorZ, floorTimes, ceilOf, truncOf, nearestOf, parts};
+ghost use Rattle.numbers.specs.Rounding.{signed, floorZ, floorTimes, ceilOf, truncOf, nearestOf, parts, cellOf};
 
 // A cell's side has 2 ^ SPLITS parts.
 const SPLITS: u32 = 8;
@@ -84,4 +84,12 @@ pub fn to_parts(t: f32) -> Whole
         Whole::TooLarge => Whole::TooLarge,
         Whole::NotANumber => Whole::NotANumber,
     }
+}
+
+// The cell of a coordinate of q parts: (q + half a side) div a side, rounded down. Half of one more
+// than the whole halves in q is the same, and it fits for every q.
+pub fn cell_of(q: i64) -> i64
+    ensures { λ r. ⌜ r ≡ cellOf q ⌝ }
+{
+    ((q >> (SPLITS - 1)) + 1) >> 1
 }

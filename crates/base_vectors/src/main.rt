@@ -1,0 +1,139 @@
+// Replays the stored cases of grid, numbers and sizing: standard input has the cases, `stdout` what an
+// independent model answers (rust/lifted writes both). A case is fifteen words: what is asked, a
+// value, a count, and twelve words of data.
+ghost use mathlib.Core.Path.{_≡_};
+ghost use Prim.Native.Nat.{_+_, _≤_};
+ghost use lib.ListN.{length};
+use grid::Axes;
+use grid::LabelSet;
+
+// The twelve data words as floats.
+fn floats(s: &[u8], at: usize) -> [f32; 12]
+    requires { ⌜ at + 60 ≤ length (now s) ⌝ }
+    ensures { λ r. ⌜ 12 ≡ length r ⌝ }
+{
+    let mut out = [0.0f32; 12];
+    let mut i = 0usize;
+    while i < 12 {
+        out[i] = replay::float_of(replay::word(s, at + 12 + 4 * i));
+        i += 1;
+    }
+    out
+}
+
+fn at_most(n: usize, most: usize) -> usize
+    ensures { λ r. ⌜ r ≤ most ⌝ }
+{
+    if n <= most { n } else { most }
+}
+
+// By size (0) and by resolution (1): as many of the floats as the count says.
+fn size_case(s: &[u8], at: usize)
+    requires { ⌜ at + 60 ≤ length (now s) ⌝ }
+{
+    let way = replay::word(s, at);
+    let value = replay::word(s, at + 4);
+    let n = at_most(replay::word(s, at + 8) as usize, 12);
+    let points = floats(s, at);
+    if way == 0 {
+        replay::sized(sizing::by_size(&points[..n], replay::float_of(value)));
+    } else {
+        replay::sized(sizing::by_resolution(&points[..n], value));
+    }
+}
+
+// Rounding (2): the ceiling, the truncation, the parts of a side.
+fn rounding_case(bits: u32) {
+    let x = replay::float_of(bits);
+    replay::whole(numbers::ceil(x));
+    replay::whole(numbers::trunc(x));
+    replay::whole(numbers::to_parts(x));
+    replay::text(b"\n");
+}
+
+fn ones() -> [f32; 196620]
+    ensures { λ r. ⌜ 196620 ≡ length r ⌝ }
+{
+    [1.0f32; 196620]
+}
+
+// Many points (3): the first so many of 196,620 equal numbers.
+fn many_case(count: u32) {
+    let many = ones();
+    let n = at_most(count as usize, 196620);
+    replay::sized(sizing::by_size(&many[..n], 1.0));
+}
+
+// Axes and a length (4).
+fn grid_case(s: &[u8], at: usize)
+    requires { ⌜ at + 60 ≤ length (now s) ⌝ }
+{
+    let len = replay::word(s, at + 4) as usize;
+    let r0 = replay::word(s, at + 12) as usize;
+    let r1 = replay::word(s, at + 16) as usize;
+    let r2 = replay::word(s, at + 20) as usize;
+    replay::checked(grid::grid_fault(Axes { r0, r1, r2 }, len));
+}
+
+// The labels whose bits are set.
+fn set_of(bits: u32) -> LabelSet {
+    LabelSet {
+        l0: bits % 2 == 1,
+        l1: bits / 2 % 2 == 1,
+        l2: bits / 4 % 2 == 1,
+        l3: bits / 8 % 2 == 1,
+        l4: bits / 16 % 2 == 1,
+        l5: bits / 32 % 2 == 1,
+        l6: bits / 64 % 2 == 1,
+        l7: bits / 128 % 2 == 1,
+        l8: bits / 256 % 2 == 1,
+    }
+}
+
+// Labels (5): as many of the 48 data bytes as the count says.
+fn labels_case(s: &[u8], at: usize)
+    requires { ⌜ at + 60 ≤ length (now s) ⌝ }
+{
+    let set = set_of(replay::word(s, at + 4));
+    let n = at_most(replay::word(s, at + 8) as usize, 48);
+    let from = at + 12;
+    let to = from + n;
+    replay::checked(grid::labels_fault(&s[from..to], set));
+}
+
+fn one_case(s: &[u8], at: usize)
+    requires { ⌜ at + 60 ≤ length (now s) ⌝ }
+{
+    let kind = replay::word(s, at);
+    if kind < 2 {
+        size_case(s, at);
+        return;
+    }
+    if kind == 2 {
+        rounding_case(replay::word(s, at + 4));
+        return;
+    }
+    if kind == 3 {
+        many_case(replay::word(s, at + 4));
+        return;
+    }
+    if kind == 4 {
+        grid_case(s, at);
+        return;
+    }
+    labels_case(s, at);
+}
+
+fn all_cases(s: &[u8]) {
+    let mut at = 0usize;
+    while at + 60 <= s.len() {
+        one_case(s, at);
+        at += 60;
+    }
+}
+
+fn main() {
+    let mut buffer = io::large_buffer();
+    let n = io::read_full(0, &mut buffer);
+    all_cases(&buffer[..n]);
+}

@@ -1,0 +1,103 @@
+// What the test programs share: words of a stored input, and answers written as text. The text is
+// tested by the programs' runs; here it is only proved that nothing faults.
+ghost use Prim.Native.Nat.{_+_, _≤_};
+ghost use lib.ListN.{length};
+use grid::Checked;
+use libc::STDOUT_FILENO;
+use numbers::Whole;
+use sizing::Sized;
+
+// ---- input
+
+// Four bytes as one number, the lowest first.
+pub fn word(s: &[u8], at: usize) -> u32
+    requires { ⌜ at + 4 ≤ length (now s) ⌝ }
+{
+    (s[at] as u32)
+        + 256 * (s[at + 1] as u32)
+        + 65536 * (s[at + 2] as u32)
+        + 16777216 * (s[at + 3] as u32)
+}
+
+// The float of a bit pattern, every NaN's too.
+pub fn float_of(bits: u32) -> f32 {
+    let field = bits % 2147483648 / 8388608;
+    let digits = bits % 8388608;
+    if (field == 255) & (digits != 0) {
+        return 0.0 / 0.0;
+    }
+    f32::from_bits(bits)
+}
+
+// ---- output
+
+pub fn text(t: &[u8]) {
+    io::write_all(STDOUT_FILENO, t);
+}
+
+pub fn number(n: u64) {
+    io::print_decimal(STDOUT_FILENO, n);
+    text(b" ");
+}
+
+// The bits of a float in hexadecimal.
+pub fn bits(x: f32) {
+    if x != x {
+        text(b"nan ");
+    } else {
+        io::print_hex(STDOUT_FILENO, f32::to_bits(x) as u64, 8);
+        text(b" ");
+    }
+}
+
+// A whole number with its sign.
+pub fn signed(n: i64) {
+    if n < 0 {
+        text(b"-");
+        let m = 0 - (n + 1);
+        number(m as u64 + 1);
+        return;
+    }
+    number(n as u64);
+}
+
+pub fn whole(w: Whole) {
+    match w {
+        Whole::Of(n) => signed(n),
+        Whole::TooLarge => text(b"large "),
+        Whole::NotANumber => text(b"nan "),
+    }
+}
+
+pub fn checked(c: Checked) {
+    match c {
+        Checked::Fine => text(b"fine"),
+        Checked::Fault(f) => {
+            text(b"refused ");
+            number(f.number as u64);
+            number(f.place as u64);
+        }
+    }
+    text(b"\n");
+}
+
+// Axes, then the bits of the origin, the scale and the reciprocal.
+pub fn sized(s: Sized) {
+    match s {
+        Sized::Refused(f) => {
+            checked(Checked::Fault(f));
+        }
+        Sized::Grid(a, p) => {
+            text(b"grid ");
+            number(a.r0 as u64);
+            number(a.r1 as u64);
+            number(a.r2 as u64);
+            bits(p.x);
+            bits(p.y);
+            bits(p.z);
+            bits(p.scale);
+            bits(p.reciprocal);
+            text(b"\n");
+        }
+    }
+}

@@ -1,0 +1,72 @@
+-- 01, Sample maps: the starred samples as one table. A row has what is asked and the answer that 01 gives; where 01 names an extent, the points are the origin and the corner that it spans. Definitions only.
+use mathlib.Core.Path.{_≡_}
+use mathlib.Core.Bool.{true, false}
+use mathlib.Core.List.{List, [], _∷_}
+use Prim.Native.Nat.{ℕ}
+use lib.IntN.{ℤ, pos, negsuc}
+use lib.Ieee.{Float, fin}
+use Rattle.numbers.specs.declared.Whole.the-variants.{Of}
+use Rattle.numbers.specs.Rounding.{nearestOf, parts, cellOf}
+use Rattle.grid.specs.declared.Axes.{Axes}
+use Rattle.grid.specs.declared.Cell.{Cell}
+use Rattle.grid.specs.Answers.{Outcome, answers, refuses}
+use Rattle.grid.specs.Grid.{num}
+use Rattle.sizing.specs.Sizing.{Laid, bySize, byResolution}
+
+pub data Sample : Type 0 where
+  by-size : List Float → Float → Outcome Laid → Sample
+  by-resolution : List Float → ℕ → Outcome Laid → Sample
+  rounding : Float → ℤ → ℤ → Sample
+  numbered : Axes → Cell → ℕ → Sample
+
+abbrev pub Holds : Sample → Type 0
+Holds (by-size ps size o) = bySize ps size ≡ o
+Holds (by-resolution ps r o) = byResolution ps r ≡ o
+Holds (rounding t q cell) = (nearestOf parts t ≡ Of q) × (cellOf q ≡ cell)
+Holds (numbered r c n) = num r c ≡ n
+
+abbrev pub All : List Sample → Type 0
+All [] = Unit
+All (s ∷ ss) = Holds s × All ss
+
+-- an odd n, and an odd n over 2 ^ (k + 1)
+abbrev pub f : ℕ → Float
+f n = fin false n (pos 0)
+
+abbrev pub part : ℕ → ℕ → Float
+part n k = fin false n (negsuc k)
+
+-- 2, 4 and 30
+abbrev pub two : Float
+two = fin false 1 (pos 1)
+
+abbrev pub four : Float
+four = fin false 1 (pos 2)
+
+abbrev pub thirty : Float
+thirty = fin false 15 (pos 1)
+
+-- the origin and one corner
+abbrev pub corner : Float → Float → Float → List Float
+corner x y z = f 0 ∷ f 0 ∷ f 0 ∷ x ∷ y ∷ z ∷ []
+
+abbrev pub axes : ℕ → ℕ → ℕ → Axes
+axes a b c = record { r0 = a; r1 = b; r2 = c }
+
+abbrev pub laid : Axes → Float → Float → Outcome Laid
+laid a scale reciprocal = answers (record { axes = a; placement = record { x = f 0; y = f 0; z = f 0; scale = scale; reciprocal = reciprocal } })
+
+-- "Extent 30: size 1.5 gives 21 cells, size 15 gives 3. Extent 0 gives 3." 1 / 1.5 is 11184811 / 2 ^ 24 and 1 / 15 is 8947849 / 2 ^ 27, each rounded once
+-- "R = 10, d = (4, 2, 1): axes 10, 7, 4, scale 4/9 rounded. R = 4, d = (2, 2, 1): 4, 6, 4." 4 / 9 is 14913081 / 2 ^ 25, of which 1 over is 9 / 4; 2 / 3 is 11184811 / 2 ^ 24
+-- "t = 0.25 is q 64, cell 0. t = 0.5 is q 128, cell 1."
+-- "Axes 3, 3, 3: cell (1, 2, 0) is number 7."
+abbrev pub table : List Sample
+table =
+    by-size (corner thirty (f 0) (f 0)) (part 3 0) (laid (axes 21 3 3) (part 3 0) (part 11184811 23))
+    ∷ by-size (corner thirty (f 0) (f 0)) (f 15) (laid (axes 3 3 3) (f 15) (part 8947849 26))
+    ∷ by-resolution (corner four two (f 1)) 10 (laid (axes 10 7 4) (part 14913081 24) (part 9 1))
+    ∷ by-resolution (corner two two (f 1)) 4 (laid (axes 4 6 4) (part 11184811 23) (part 3 0))
+    ∷ rounding (part 1 1) (pos 64) (pos 0)
+    ∷ rounding (part 1 0) (pos 128) (pos 1)
+    ∷ numbered (axes 3 3 3) (record { i = 1; j = 2; k = 0 }) 7
+    ∷ []

@@ -1,0 +1,145 @@
+// From parry3d 0.30.2, src/transformation/voxelization/voxelized_volume.rs, `with_voxel_size` and
+// `voxelize` up to the call of `do_voxelize`. Lines that differ end with `// touched`.
+//
+// Rust port, with modifications, of https://github.com/kmammou/v-hacd/blob/master/src/VHACD_Lib/src/vhacdVolume.cpp
+// By Khaled Mamou
+//
+// # License of the original C++ code:
+// > Copyright (c) 2011 Khaled Mamou (kmamou at gmail dot com)
+// > All rights reserved.
+// >
+// > The conditions and the disclaimer stand whole in NOTICE.
+
+pub type Real = f32;
+pub const DIM: usize = 3;
+
+/// A stand-in for the crate's vector type, which is not in the supplied text: componentwise, as there.
+#[derive(Clone, Copy, Debug)]
+pub struct Vector {
+    pub x: Real,
+    pub y: Real,
+    pub z: Real,
+}
+
+impl Vector {
+    pub const ZERO: Vector = Vector { x: 0.0, y: 0.0, z: 0.0 };
+}
+
+impl core::ops::Index<usize> for Vector {
+    type Output = Real;
+    fn index(&self, i: usize) -> &Real {
+        [&self.x, &self.y, &self.z][i]
+    }
+}
+
+impl core::ops::Sub for Vector {
+    type Output = Vector;
+    fn sub(self, o: Vector) -> Vector {
+        Vector { x: self.x - o.x, y: self.y - o.y, z: self.z - o.z }
+    }
+}
+
+impl core::ops::Div<Real> for Vector {
+    type Output = Vector;
+    fn div(self, s: Real) -> Vector {
+        Vector { x: self.x / s, y: self.y / s, z: self.z / s }
+    }
+}
+
+pub struct Aabb {
+    pub mins: Vector,
+    pub maxs: Vector,
+}
+
+impl Aabb {
+    pub fn extents(&self) -> Vector {
+        self.maxs - self.mins
+    }
+}
+
+/// A stand-in for the crate's box helper over points, which is not in the supplied text. Of equal values
+/// the earliest point's bits are kept, as document 01 says.
+pub fn local_point_cloud_aabb_ref(points: &[Vector]) -> Aabb {
+    let keep = |better: fn(Real, Real) -> bool, axis: usize| {
+        points.iter().skip(1).fold(points[0][axis], |a, p| if better(p[axis], a) { p[axis] } else { a })
+    };
+    let all = |better: fn(Real, Real) -> bool| Vector { x: keep(better, 0), y: keep(better, 1), z: keep(better, 2) };
+    Aabb { mins: all(|a, b| a < b), maxs: all(|a, b| a > b) }
+}
+
+pub struct VoxelizedVolume {
+    pub origin: Vector, // touched: pub
+    pub scale: Real, // touched: pub
+    pub resolution: [u32; DIM], // touched: pub, and no values, data or primitive_intersections
+}
+
+impl VoxelizedVolume {
+    pub fn with_voxel_size(
+        points: &[Vector],
+        voxel_size: Real, // touched: no indices, fill_mode or keep_voxel_to_primitives_map
+    ) -> Self {
+        let mut result = VoxelizedVolume {
+            resolution: [0; DIM],
+            origin: Vector::ZERO,
+            scale: voxel_size,
+        };
+
+        if points.is_empty() {
+            return result;
+        }
+
+        let aabb = local_point_cloud_aabb_ref(points); // touched: the path
+        result.origin = aabb.mins;
+        let extents = aabb.extents() / voxel_size;
+        {
+            result.resolution = [
+                (extents.x.ceil() as u32).max(2) + 1,
+                (extents.y.ceil() as u32).max(2) + 1,
+                (extents.z.ceil() as u32).max(2) + 1,
+            ];
+        }
+
+        result // touched: no do_voxelize
+    }
+
+    pub fn voxelize(
+        points: &[Vector],
+        resolution: u32, // touched: no indices, fill_mode or keep_voxel_to_primitives_map
+    ) -> Self {
+        let mut result = VoxelizedVolume {
+            resolution: [0; DIM],
+            origin: Vector::ZERO,
+            scale: 1.0,
+        };
+
+        if points.is_empty() {
+            return result;
+        }
+
+        let aabb = local_point_cloud_aabb_ref(points); // touched: the path
+        result.origin = aabb.mins;
+
+        let d = aabb.maxs - aabb.mins;
+        let r;
+
+        if d[0] >= d[1] && d[0] >= d[2] {
+            r = d[0];
+            result.resolution[0] = resolution;
+            result.resolution[1] = 2 + (resolution as Real * d[1] / d[0]) as u32;
+            result.resolution[2] = 2 + (resolution as Real * d[2] / d[0]) as u32;
+        } else if d[1] >= d[0] && d[1] >= d[2] {
+            r = d[1];
+            result.resolution[1] = resolution;
+            result.resolution[0] = 2 + (resolution as Real * d[0] / d[1]) as u32;
+            result.resolution[2] = 2 + (resolution as Real * d[2] / d[1]) as u32;
+        } else {
+            r = d[2];
+            result.resolution[2] = resolution;
+            result.resolution[0] = 2 + (resolution as Real * d[0] / d[2]) as u32;
+            result.resolution[1] = 2 + (resolution as Real * d[1] / d[2]) as u32;
+        }
+
+        result.scale = r / (resolution as Real - 1.0);
+        result // touched: no do_voxelize
+    }
+}
