@@ -1,18 +1,18 @@
 -- Laws of specs/Grid.antt: number and coordinates determine each other, what a store changes, faces and the border's test. Assumes nothing.
-use mathlib.Core.Bool.{Bool, true, false, _||_, true≢false}
+use mathlib.Core.Bool.{Bool, true, false, _||_}
 use mathlib.Core.Logic.{_⊎_, inl, inr, ⊎-elim, _↔_}
 use mathlib.Core.Path.{_≡_, refl, sym, ap, subst, _∙_}
-use mathlib.Core.List.{List, [], _∷_}
+use mathlib.Core.List.{List}
 use Prim.Native.Nat.{ℕ, zero, suc, _+_, _*_, _-_, _/_, _%_, _≤_, _<_}
 use native.Mathlib.Nat.{mul-comm, mul-assoc, suc-mul, add-mul, zero-mul, one-mul, mul-le-mul, mul-le-mul-right, div-add-mod', mod-lt, div-lt-iff-lt-mul}
 use native.Mathlib.Omega.{arith}
 use lib.Dec.{eqb}
-use lib.ListN.{length, getD, set, length-set}
+use lib.ListN.{length, getD, set}
 use lib.Seq.{getD-set-same, getD-set-other, ext-getD}
 use borrow.Author.Tests.{eqb-true, eqb-false, eq-eqb}
 use Rattle.grid.specs.declared.Axes.{Axes}
 use Rattle.grid.specs.declared.Cell.{Cell}
-use Rattle.grid.specs.Grid.{Axis, Sound, num, cellOf, cells, InGrid, at, Next, along-i, along-j, along-k, Face, Border, first-i, first-j, first-k, last-i, last-j, last-k, onBorder}
+use Rattle.grid.specs.Grid.{Sound, num, cellOf, cells, InGrid, at, Next, along-i, along-j, along-k, Face, Border, first-i, first-j, first-k, last-i, last-j, last-k, onBorder}
 use Rattle.grid.proofs.First.{le-or-lt}
 
 pub dec-eq : {C : Type 0} (a b : ℕ) → (a ≡ b → C) → ((a ≡ b → ⊥) → C) → C

@@ -1,23 +1,22 @@
 -- Laws of checks in a row, and of specs/Checks.antt: a check that finds no fault says that its line of the table does not hold. Assumes nothing.
 use mathlib.Core.Bool.{Bool, true, false, not, _||_, true≢false, false≢true}
 use mathlib.Core.Logic.{_↔_}
-use mathlib.Core.Path.{_≡_, refl, sym, ap, _∙_}
+use mathlib.Core.Path.{_≡_, refl, sym, ap, _∙_, subst}
 use mathlib.Core.List.{List}
-use Prim.Native.Nat.{ℕ, _*_, _<_, _≤_}
+use Prim.Native.Nat.{ℕ, _<_, _≤_}
 use native.Mathlib.Omega.{arith}
 use lib.Dec.{T, eqb, ltb}
 use lib.ListN.{length, getD}
-use borrow.Author.Tests.{eqb-true, eqb-false, eq-eqb, ne-eqb, ltb-true, ltb-false, le-ltb}
+use borrow.Author.Tests.{eqb-true, eqb-false, eq-eqb, ne-eqb, ltb-true, ltb-false, lt-ltb, le-ltb}
 use Rattle.grid.specs.declared.Axes.{Axes}
 use Rattle.grid.specs.declared.Checked.{Checked}
 use Rattle.grid.specs.declared.Checked.the-variants.{Fine, Fault}
-use Rattle.grid.specs.declared.LabelSet.{LabelSet}
 use Rattle.grid.specs.declared.Refusal.{Refusal}
 use Rattle.grid.specs.Answers.{Outcome, answers, refuses, faultAt, faultIf, _andThen_, unless, isOneOf, Finds, Gives}
-use Rattle.grid.specs.First.{firstNot}
+use Rattle.grid.specs.First.{FirstAt, firstNot}
 use Rattle.grid.specs.Grid.{Axis, Sound, cells}
-use Rattle.grid.specs.Checks.{badAxis, axesFault, lengthFault, gridFault, takes, labelsFault}
-use Rattle.grid.proofs.First.{before-first}
+use Rattle.grid.specs.Checks.{firstFault, badAxis, axesFault, lengthFault}
+use Rattle.grid.proofs.First.{before-first, at-first, first-is, first-one}
 
 -- ---- a row of checks
 
@@ -115,10 +114,39 @@ length-fine r n = (
   (λ e. sym (fault-not (not (eqb n (cells r))) 9 0 Fine (ap not (eq-eqb n (cells r) e)))),
 )
 
--- ---- 11
+-- ---- a check of every element, as 3, 4 and 11 are
 
-pub labels-fine : (s : LabelSet) (l : List ℕ) → labelsFault s l ≡ Fine → (n : ℕ) → n < length l → takes s (getD l n 0) ≡ true
-labels-fine s l h n k =
-    let p = firstNot (takes s) l in
-    let q = ltb-false p (length l) (passed (ltb p (length l)) 11 p Fine h .0) in
-    before-first (takes s) 0 l n (omega (arith, q))
+module _ {A : Type 0} (n : ℕ) (place : ℕ → ℕ) (ok : A → Bool) (d : A) (xs : List A) where
+  abbrev p : ℕ
+  p = firstNot ok xs
+
+  all-pass : length xs ≤ p → (k : ℕ) → k < length xs → ok (getD xs k d) ≡ true
+  all-pass h k l = before-first ok d xs k (omega (arith, h))
+
+  -- no fault exactly if every element passes
+  pub first-fine : (firstFault n place ok xs ≡ Fine) ↔ ((k : ℕ) → k < length xs → ok (getD xs k d) ≡ true)
+  first-fine = (
+    (λ h. all-pass (ltb-false p (length xs) (passed (ltb p (length xs)) n (place p) Fine h .0))),
+    (λ h. sym (fault-not (ltb p (length xs)) n (place p) Fine (none h (ltb p (length xs)) refl))),
+  )
+    where
+      none : ((k : ℕ) → k < length xs → ok (getD xs k d) ≡ true) → (b : Bool) → ltb p (length xs) ≡ b → ltb p (length xs) ≡ false
+      none h false e = e
+      none h true e = let l = ltb-true p (length xs) e in absurd (true≢false (sym (h p l) ∙ at-first ok d xs l))
+
+  -- a fault at k exactly if k is made of the first place at fault
+  pub first-fault : (k : ℕ) → FirstAt ok d xs k → firstFault n place ok xs ≡ faultAt n (place k)
+  first-fault k w =
+      let e = first-one ok d xs k w in
+      let l = w .within in
+      sym (fault-here (ltb p (length xs)) n (place p) Fine (lt-ltb p (length xs) (subst (λ (i : ℕ). i < length xs) e l))) ∙ ap (λ (i : ℕ). faultAt n (place i)) (sym e)
+
+  pub fault-first : (f : Refusal) → firstFault n place ok xs ≡ Fault f → (k : ℕ) × FirstAt ok d xs k × (f .number ≡ n) × (f .place ≡ place k)
+  fault-first f h = go (ltb p (length xs)) refl h
+    where
+      same : (a b : Refusal) → Fault a ≡ Fault b → a ≡ b
+      same a b e = cc
+
+      go : (b : Bool) → ltb p (length xs) ≡ b → faultIf b n (place p) Fine ≡ Fault f → (k : ℕ) × FirstAt ok d xs k × (f .number ≡ n) × (f .place ≡ place k)
+      go true e r = let s = same (record { number = n; place = place p }) f r in (p, first-is ok d xs (ltb-true p (length xs) e), sym (ap (λ (x : Refusal). x .number) s), sym (ap (λ (x : Refusal). x .place) s))
+      go false e r = absurd (no-fault f (sym r))

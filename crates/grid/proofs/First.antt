@@ -1,5 +1,5 @@
 -- Laws of specs/First.antt, over the element type and the test: what a loop that looks for the first place goes by, and what its answer says. Assumes nothing.
-use mathlib.Core.Path.{_≡_, refl, sym, ap, _∙_, subst}
+use mathlib.Core.Path.{_≡_, refl, sym, ap, _∙_}
 use mathlib.Core.Bool.{Bool, true, false, cond, _&&_, and-assoc, true≢false}
 use mathlib.Core.Logic.{_⊎_, inl, inr, ⊎-elim}
 use mathlib.Core.List.{List, [], _∷_}
@@ -9,7 +9,7 @@ use native.Mathlib.Numerals.{add-one}
 use native.Mathlib.Omega.{arith}
 use lib.ListN.{length, getD, drop, drop-of-length-le}
 use lib.Seq.{drop-cons}
-use Rattle.grid.specs.First.{firstNot, every}
+use Rattle.grid.specs.First.{FirstAt, firstNot, every}
 
 pub le-or-lt : (a b : ℕ) → (a ≤ b) ⊎ (b < a)
 le-or-lt zero b = inl zero-le
@@ -102,12 +102,15 @@ module _ {A : Type 0} (ok : A → Bool) (d : A) where
       go rest true e l = rest (le-of-suc-le-suc l)
       go rest false e l = e
 
-  -- a place within the list that fails, where all before it pass, is the first
-  pub first-one : (xs : List A) (n : ℕ) → n < length xs → ((k : ℕ) → k < n → ok (getD xs k d) ≡ true) → ok (getD xs n d) ≡ false → n ≡ firstNot ok xs
-  first-one xs n l before at =
+  -- so what is found is the first place at fault, and there is no other
+  pub first-is : (xs : List A) → firstNot ok xs < length xs → FirstAt ok d xs (firstNot ok xs)
+  first-is xs h = record { within = h; fails = at-first xs h; before = before-first xs }
+
+  pub first-one : (xs : List A) (n : ℕ) → FirstAt ok d xs n → n ≡ firstNot ok xs
+  first-one xs n w =
       ⊎-elim
-      (λ p. ⊎-elim (λ q. omega arith) (λ q. absurd (true≢false (sym (before (firstNot ok xs) q) ∙ at-first xs (lt-of-le-of-lt p l)))) (le-or-lt n (firstNot ok xs)))
-      (λ q. absurd (true≢false (sym (before-first xs n q) ∙ at)))
+      (λ p. ⊎-elim (λ q. omega arith) (λ q. absurd (true≢false (sym (w .before (firstNot ok xs) q) ∙ at-first xs (lt-of-le-of-lt p (w .within))))) (le-or-lt n (firstNot ok xs)))
+      (λ q. absurd (true≢false (sym (before-first xs n q) ∙ w .fails)))
       (le-or-lt (firstNot ok xs) n)
 
 -- all pass exactly if the place is the length

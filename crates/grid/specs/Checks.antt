@@ -12,6 +12,10 @@ use Rattle.grid.specs.Answers.{faultIf, _andThen_}
 use Rattle.grid.specs.First.{firstNot}
 use Rattle.grid.specs.Grid.{cells}
 
+-- number n where some element of a list fails a test: its place is made of the first such element's
+abbrev pub firstFault : {A : Type 0} → ℕ → (ℕ → ℕ) → (A → Bool) → List A → Checked
+firstFault n place ok xs = faultIf (ltb (firstNot ok xs) (length xs)) n (place (firstNot ok xs)) Fine
+
 -- "8: an axis of 0 or more than 256 cells"; the place is the axis
 abbrev pub badAxis : ℕ → Bool
 badAxis n = eqb n 0 || ltb 256 n
@@ -35,4 +39,4 @@ takes s v =
 
 -- "11: a label the call does not take"; the place is the label's cell number
 abbrev pub labelsFault : LabelSet → List ℕ → Checked
-labelsFault s l = faultIf (ltb (firstNot (takes s) l) (length l)) 11 (firstNot (takes s) l) Fine
+labelsFault s l = firstFault 11 (λ n. n) (takes s) l

@@ -1,9 +1,17 @@
 -- 01, Input bounds and refusals: "with the first place at fault". Definitions only.
-use Prim.Native.Nat.{ℕ, suc}
-use mathlib.Core.Bool.{Bool, true, cond, _&&_}
+use Prim.Native.Nat.{ℕ, suc, _<_}
+use mathlib.Core.Bool.{Bool, true, false, cond, _&&_}
+use mathlib.Core.Path.{_≡_}
 use mathlib.Core.List.{List, [], _∷_}
+use lib.ListN.{length, getD}
 
--- the first place of a list whose element fails a test, or the length
+-- what the first place at fault is: its element fails a test, and every one before it passes
+pub record FirstAt {A : Type 0} (ok : A → Bool) (d : A) (xs : List A) (n : ℕ) : Type 0 where
+  pub within : n < length xs
+  pub fails : ok (getD xs n d) ≡ false
+  pub before : (k : ℕ) → k < n → ok (getD xs k d) ≡ true
+
+-- how it is found: the first place of a list whose element fails a test, or the length
 unfoldable pub firstNot : {A : Type 0} → (A → Bool) → List A → ℕ
 firstNot ok [] = 0
 firstNot ok (x ∷ xs) = cond (ok x) (suc (firstNot ok xs)) 0

@@ -1,7 +1,6 @@
 // The ground of every call: axes, cells and their numbers, a grid's placement, refusals, and the
 // checks 8, 9 and 11 that calls share.
 ghost use mathlib.Core.Path.{_≡_};
-ghost use lib.ListN.{length};
 ghost use Rattle.grid.specs.Answers.{faultAt, _andThen_};
 ghost use Rattle.grid.specs.First.{firstNot, every};
 ghost use Rattle.grid.specs.Grid.{num, Sound, InGrid, onBorder};

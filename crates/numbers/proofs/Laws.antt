@@ -1,12 +1,11 @@
 -- Laws of `specs/Rounding.antt`. Assumes nothing.
 use mathlib.Core.Path.{_≡_, refl, sym, ap, _∙_, subst}
 use mathlib.Core.Bool.{Bool, true, false, not, cond, true≢false, false≢true}
-use mathlib.Core.Logic.{inl, inr}
 use Prim.Native.Nat.{ℕ, zero, suc, _+_, _-_, _*_, _/_, _%_, _^_, _≤_, _<_}
 use native.Mathlib.Nat.{le-trans, le-of-eq, le-antisymm, le-div-iff-mul-le, lt-of-mul-lt-mul-right, mul-lt-mul-of-pos-right, lt-of-lt-of-le, lt-of-le-of-lt, mul-right-comm, mul-assoc, mul-comm, mul-left-comm, zero-mul, mul-pos, lt-irrefl, div-div-eq-div-mul, add-div-right, div-eq-of-lt, mul-one, mul-le-mul-left, mul-le-mul-right, le-add-right, one-mul, div-lt-iff-lt-mul, mul-lt-mul-of-pos-left, zero-div, not-suc-le-zero}
 use native.Mathlib.Omega.{arith}
-use lib.Dec.{T, ltb, leb, eqb, lt→ltb, ltb→lt, nltb→le, lit<, lit≤}
-use lib.IntN.{ℤ, pos, negsuc, negℤ, _+ℤ_, _-ℤ_, +ℤ-idl, +ℤ-one, sucℤ, subℕ}
+use lib.Dec.{T, ltb, leb, eqb, lt→ltb, ltb→lt, lit<, lit≤}
+use lib.IntN.{ℤ, pos, negsuc, negℤ, _+ℤ_, _-ℤ_, +ℤ-idl, +ℤ-one, sucℤ}
 use lib.Signed.{shrZ, mag, mag-shr}
 use lib.Pow.{pow-add, pow-pos, pow-mono, shl-lt}
 use lib.Ieee.{Float, nan, inf, fin, up, down, binary32, odd, ofFields, isNan, ne, neg, lt, fits, toBits, ofBits}

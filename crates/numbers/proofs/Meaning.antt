@@ -1,19 +1,18 @@
 -- What the answers of specs/Rounding.antt mean: each whole number that is given is the one that `IsNearest`, `IsCeiling` or `IsTruncation` describes, and the only one. Assumes nothing.
 use mathlib.Core.Path.{_≡_, refl, sym, ap, _∙_, subst}
 use mathlib.Core.Logic.{_↔_}
-use Prim.Native.Nat.{ℕ, zero, suc, _+_, _*_, _/_, _^_, _≤_, _<_}
+use Prim.Native.Nat.{ℕ, zero, suc, _+_, _*_, _/_, _≤_, _<_}
 use native.Mathlib.Nat.{le-div-iff-mul-le, div-lt-iff-lt-mul, mul-pos, zero-lt-suc, lt-irrefl}
 use native.Mathlib.Omega.{arith}
 use mathlib.Core.Bool.{Bool, true, false, not}
-use lib.Dec.{T, leb, ltb, leb→le, le→leb}
+use lib.Dec.{T, ltb, leb→le, le→leb}
 use lib.IntN.{ℤ, pos, negsuc, negℤ, negℤ-negℤ, *ℤ-comm, _*ℤ_, _+ℤ_}
 use lib.Signed.{leZ}
-use lib.Ieee.{Float, fin, up, down}
+use lib.Ieee.{fin, up, down}
 use lib.Ieee.Fits.{down-pos}
-use borrow.Author.Tests.{lt-ltb, le-ltb, ltb-true, ltb-false}
+use borrow.Author.Tests.{lt-ltb, le-ltb, ltb-false}
 use Rattle.ints.specs.Order.{leZ-refl, leZ-antisym, leZ-neg}
 use Rattle.ints.specs.Ring.{mul-neg}
-use Rattle.numbers.specs.declared.Whole.{Whole}
 use Rattle.numbers.specs.declared.Whole.the-variants.{Of, TooLarge}
 use Rattle.numbers.specs.Rounding.{IsFloor, IsCeil, IsNearest, IsCeiling, IsTruncation, limit, signed, floorZ, pickWhole, within, nearestOf, ceilOf, truncOf}
 

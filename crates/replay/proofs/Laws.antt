@@ -1,9 +1,8 @@
 -- A number below 0: one more than it, negated, is its magnitude less one, which fits. Assumes nothing.
 use mathlib.Core.Path.{_≡_, refl, sym, ap, _∙_, subst}
-use mathlib.Core.Bool.{true, false, false≢true}
-use Prim.Native.Nat.{ℕ, zero, suc, _<_, _^_}
+use mathlib.Core.Bool.{true}
+use Prim.Native.Nat.{zero, suc, _<_, _^_}
 use native.Mathlib.Omega.{arith}
-use lib.Dec.{ltb}
 use lib.IntN.{ℤ, pos, negsuc, negℤ, sucℤ, _+ℤ_, _-ℤ_, +ℤ-idl, +ℤ-one}
 use lib.Signed.{mag, ltZ}
 use borrow.Author.Needs.{sfits-of}

@@ -1,6 +1,6 @@
 -- 01, Sample maps: the starred samples as one table. A row has what is asked and the answer that 01 gives; where 01 names an extent, the points are the origin and the corner that it spans. Definitions only.
 use mathlib.Core.Path.{_≡_}
-use mathlib.Core.Bool.{true, false}
+use mathlib.Core.Bool.{false}
 use mathlib.Core.List.{List, [], _∷_}
 use Prim.Native.Nat.{ℕ}
 use lib.IntN.{ℤ, pos, negsuc}
@@ -9,7 +9,7 @@ use Rattle.numbers.specs.declared.Whole.the-variants.{Of}
 use Rattle.numbers.specs.Rounding.{nearestOf, parts, cellOf}
 use Rattle.grid.specs.declared.Axes.{Axes}
 use Rattle.grid.specs.declared.Cell.{Cell}
-use Rattle.grid.specs.Answers.{Outcome, answers, refuses}
+use Rattle.grid.specs.Answers.{Outcome, answers}
 use Rattle.grid.specs.Grid.{num}
 use Rattle.sizing.specs.Sizing.{Laid, bySize, byResolution}
 

@@ -1,5 +1,5 @@
 -- Laws of specs/Points.antt and specs/Sizing.antt that the functions' proofs go by. Assumes nothing.
-use mathlib.Core.Path.{_≡_, refl, sym, ap, _∙_, subst}
+use mathlib.Core.Path.{_≡_, refl, sym, ap, _∙_}
 use mathlib.Core.Bool.{Bool, true, false, not, cond, _&&_, _||_, true≢false, false≢true}
 use mathlib.Core.List.{List}
 use Prim.Native.Nat.{ℕ, zero, suc, _+_, _-_, _*_, _/_, _%_, _^_, _≤_, _<_}
@@ -7,22 +7,19 @@ use native.Mathlib.Nat.{mul-pos, mul-one, one-mul}
 use native.Mathlib.Numerals.{add-one}
 use native.Mathlib.Omega.{arith}
 use lib.ListN.{length, getD}
-use lib.Dec.{T, ltb, leb, eqb, lit<, lit≤}
-use lib.IntN.{ℤ, pos, negsuc, natAbs, _+ℤ_}
-use lib.Signed.{leZ, ltZ, nonNeg, mag}
+use lib.Dec.{T, ltb, leb, eqb}
+use lib.IntN.{ℤ, pos, negsuc, natAbs}
+use lib.Signed.{leZ, ltZ, nonNeg}
 use lib.Ieee.{Float, nan, inf, fin, up, down, binary32, lt, eq, le, neg, ofBits}
 use lib.Ieee.Fits.{down-pos}
 use lib.Pow.{pow-pos}
-use borrow.Author.Tests.{lt-ltb, le-ltb, le-leb, lt-leb, eq-eqb, ltb-true, ltb-false, leb-true, leb-false, eqb-true, eqb-false}
+use borrow.Author.Tests.{lt-ltb, le-leb, lt-leb, eq-eqb, ltb-true, ltb-false, leb-false, eqb-true, eqb-false}
 use Rattle.numbers.specs.declared.Whole.the-variants.{Of}
-use Rattle.grid.specs.declared.Checked.{Checked}
 use Rattle.grid.specs.declared.Checked.the-variants.{Fine}
 use Rattle.grid.specs.Answers.{_andThen_}
-use Rattle.grid.specs.First.{firstNot}
-use Rattle.grid.proofs.First.{before-first}
-use Rattle.grid.proofs.Checks.{passed, both-fine}
+use Rattle.grid.proofs.Checks.{passed, both-fine, first-fine}
 use Rattle.sizing.specs.Points.{bounded, lengthFault, noneFault, numbersFault, pointsFault}
-use Rattle.sizing.specs.Sizing.{leastSize, greatestSize, cellsOf, larger, natural, pointAt, spansAt, spansWith, spansTo, twoMore, resolutionFault}
+use Rattle.sizing.specs.Sizing.{leastSize, greatestSize, cellsOf, natural, pointAt, spansAt, spansWith, spansTo, twoMore, resolutionFault}
 
 -- ---- the bound on a number, by two comparisons
 
@@ -139,10 +136,6 @@ unfolding twoMore
 two-some (pos n) h = refl
 two-some (negsuc n) h = absurd (true≢false h)
 
-pub not-below : (z : ℤ) → ltZ z (pos 0) ≡ false → T (nonNeg z)
-not-below (pos n) h = tt
-not-below (negsuc n) h = absurd (true≢false h)
-
 -- ---- the spans of the points so far
 
 pub spans-first : (ps : List Float) → spansAt (pointAt ps 0) ≡ spansTo ps 0
@@ -189,10 +182,7 @@ module _ (ps : List Float) (h : pointsFault ps ≡ Fine) where
       three n a b = omega arith
 
   pub all-bounded : (k : ℕ) → k < length ps → bounded 20 (getD ps k nan) ≡ true
-  all-bounded k l =
-      let p = firstNot (bounded 20) ps in
-      let q = ltb-false p (length ps) (passed (ltb p (length ps)) 3 (0 + p) Fine (parts .2) .0) in
-      before-first (bounded 20) nan ps k (omega (arith, q))
+  all-bounded = first-fine 3 (λ n. 0 + n) (bounded 20) nan ps .0 (parts .2)
 
 pub resolution-fine : (r : ℕ) → resolutionFault r ≡ Fine → (2 ≤ r) × (r ≤ 254)
 resolution-fine r h = go (ltb r 2) (ltb 254 r) refl refl (passed (ltb r 2 || ltb 254 r) 6 0 Fine h .0)

@@ -1,37 +1,32 @@
 -- What sizing's answers say: that a result is settled, which numbers each way gives, that axes are in range, where the origin lies, and the reciprocal. Assumes nothing.
-use mathlib.Core.Path.{_≡_, refl, sym, ap, _∙_, subst}
+use mathlib.Core.Path.{_≡_, refl, sym, _∙_, subst}
 use mathlib.Core.Bool.{Bool, true, false, not, cond, _&&_, _||_, true≢false, false≢true}
 use mathlib.Core.List.{List, [], _∷_}
-use mathlib.Core.Logic.{_⊎_, inl, inr, ⊎-elim}
-use Prim.Native.Nat.{ℕ, zero, suc, _+_, _-_, _/_, _%_, _≤_, _<_}
+use Prim.Native.Nat.{ℕ, _+_, _-_, _/_, _%_, _≤_}
 use native.Mathlib.Omega.{arith}
 use lib.Dec.{T, leb, ltb, eqb}
 use lib.ListN.{length}
-use lib.IntN.{pos, negsuc}
-use lib.Ieee.{Float, fin, binary32, lt, le, div, mul, sub}
+use lib.IntN.{pos}
+use lib.Ieee.{Float, fin, binary32, lt, le, div, mul}
 use lib.Ieee.Scale.{finite}
-use borrow.Author.Tests.{ltb-false, leb-false}
+use borrow.Author.Tests.{leb-false}
 use Rattle.numbers.specs.declared.Whole.{Whole}
 use Rattle.numbers.specs.declared.Whole.the-variants.{Of, TooLarge, NotANumber}
 use Rattle.numbers.specs.Rounding.{ceilOf, truncOf}
-use Rattle.numbers.proofs.Order.{lt-through, lt-asym, lt-le, not-lt-le, not-le-lt, le-not, le-self}
+use Rattle.numbers.proofs.Order.{lt-through, lt-asym, lt-le, not-lt-le, not-le-lt, le-self}
 use Rattle.grid.specs.declared.Axes.{Axes}
-use Rattle.grid.specs.declared.Placement.{Placement}
-use Rattle.grid.specs.declared.Checked.{Checked}
 use Rattle.grid.specs.declared.Checked.the-variants.{Fine}
-use Rattle.grid.specs.Answers.{Outcome, answers, refuses, faultIf, _andThen_, unless, isOneOf, Finds, Gives}
+use Rattle.grid.specs.Answers.{Outcome, answers, _andThen_, isOneOf, Finds, Gives}
 use Rattle.grid.specs.First.{firstNot}
 use Rattle.grid.specs.Grid.{Axis, Sound}
 use Rattle.grid.specs.Checks.{axesFault, badAxis}
 use Rattle.grid.proofs.Checks.{passed, both-fine, finds-if, finds-then, gives-unless, answered, axes-fine}
-use Rattle.sizing.specs.declared.Span.{Span}
-use Rattle.sizing.specs.declared.Spans.{Spans}
 use Rattle.sizing.specs.declared.Sized.{Sized}
 use Rattle.sizing.specs.declared.Sized.the-variants.{Grid, Refused}
 use Rattle.sizing.specs.Points.{bounded, lengthFault, noneFault, numbersFault, pointsFault}
-use Rattle.sizing.specs.Sizing.{Laid, outcome, Smallest, extent, spansOf, placedAt, sizeFault, cellsOf, larger, natural, axisBySize, sizeAxes, gridOf, sizeGrid, bySize, resolutionFault, tops, mainAxis, extentAt, leastExtent, extentFault, countOf, twoMore, axisByResolution, mainOf, dmainOf, resolutionAxes, resolutionScale, resolutionGrid, byResolution, leastSize, greatestSize}
+use Rattle.sizing.specs.Sizing.{Laid, outcome, Smallest, extent, spansOf, placedAt, sizeFault, cellsOf, larger, natural, sizeAxes, gridOf, sizeGrid, bySize, resolutionFault, tops, mainAxis, extentAt, leastExtent, extentFault, countOf, twoMore, mainOf, dmainOf, resolutionAxes, resolutionScale, resolutionGrid, byResolution, leastSize, greatestSize}
 use Rattle.sizing.proofs.Laws.{resolution-fine}
-use Rattle.sizing.proofs.Extremes.{Spanned, x-spanned, y-spanned, z-spanned}
+use Rattle.sizing.proofs.Extremes.{x-spanned, y-spanned, z-spanned}
 use Rattle.sizing.proofs.Ratio.{Extent, difference, whole-part}
 
 -- ---- two results that fit a call's promise are one

@@ -8,7 +8,7 @@ use lib.Ieee.{Float, nan, inf, fin, up, down}
 use Rattle.grid.specs.declared.Checked.{Checked}
 use Rattle.grid.specs.declared.Checked.the-variants.{Fine}
 use Rattle.grid.specs.Answers.{faultIf, _andThen_}
-use Rattle.grid.specs.First.{firstNot}
+use Rattle.grid.specs.Checks.{firstFault}
 
 -- "1: a point or triangle length is not a multiple of 3, or more than 65,536 of either"
 abbrev pub lengthFault : ℕ → Checked
@@ -26,7 +26,7 @@ bounded k (fin s m e) = leb (m * up e) (2 ^ k * down e)
 
 -- "3: a point or origin number is NaN, infinite, or over 2^20 in magnitude"; "the index of the f32", after those that are numbered `before` the points
 abbrev pub numbersFault : ℕ → List Float → Checked
-numbersFault before ps = faultIf (ltb (firstNot (bounded 20) ps) (length ps)) 3 (before + firstNot (bounded 20) ps) Fine
+numbersFault before ps = firstFault 3 (λ n. before + n) (bounded 20) ps
 
 -- the refusals of points that no other number goes before
 abbrev pub pointsFault : List Float → Checked

@@ -1,8 +1,7 @@
 -- `base_vectors::floats` stays in the slice and in the array. Assumes nothing.
-use borrow.Author.Needs.{needs}
 use native.Mathlib.Omega.{arith}
 use Prim.Native.Nat.{_-_, _≤_}
-use mathlib.Core.Path.{_≡_, refl, _∙_, sym}
+use mathlib.Core.Path.{_≡_, refl, _∙_}
 use lib.ListN.{length, length-set}
 use Rattle.base_vectors.proofs.floats.Statement.{statement}
 use Rattle.base_vectors.proofs.floats.Tie as tie

@@ -1,6 +1,5 @@
 -- `base_vectors::many_case` lends a part of its numbers. Assumes nothing.
 use native.Mathlib.Omega.{arith}
-use mathlib.Core.Path.{_≡_}
 use lib.ListN.{length-take}
 use borrow.Author.Needs.{needs}
 use Rattle.base_vectors.proofs.many_case.Statement.{statement}

@@ -1,5 +1,4 @@
 -- `grid::bad_axis` meets its contract: the code's test is the definition's. Assumes nothing.
-use borrow.Author.Needs.{needs}
 use mathlib.Core.Path.{refl}
 use Rattle.grid.proofs.bad_axis.Statement.{statement}
 use Rattle.grid.proofs.bad_axis.Tie as tie

@@ -1,5 +1,4 @@
 -- `grid::taken` meets its contract: the code's test is the definition's. Assumes nothing.
-use borrow.Author.Needs.{needs}
 use mathlib.Core.Path.{refl}
 use Rattle.grid.proofs.taken.Statement.{statement}
 use Rattle.grid.proofs.taken.Tie as tie

@@ -9,7 +9,7 @@ use lib.Signed.{mag, shrZ}
 use mir.Syntax.{w64}
 use mir.Val.{SFits, toZ, ofZ}
 use Rattle.numbers.specs.Rounding.{half}
-use Rattle.numbers.proofs.Laws.{halved, half-of-floor, more-fits, halved-back, shr-under}
+use Rattle.numbers.proofs.Laws.{half-of-floor, more-fits, halved-back, shr-under}
 use Rattle.numbers.proofs.cell_of.Statement.{statement}
 use Rattle.numbers.proofs.cell_of.Tie as tie
 

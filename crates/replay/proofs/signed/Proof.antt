@@ -8,7 +8,7 @@ use lib.IntN.{ℤ, pos, natAbs}
 use lib.Signed.{ltZ, nonNeg, natAbs-le}
 use mir.Syntax.{w64}
 use mir.Val.{Fits, SFits, toZ, ofZ}
-use Rattle.sizing.proofs.Laws.{not-below}
+use Rattle.ints.specs.Casts.{not-below}
 use Rattle.replay.proofs.Laws.{add-fits, sub-fits, magnitude}
 use borrow.Author.Needs.{needs}
 use Rattle.replay.proofs.signed.Statement.{statement}

@@ -2,10 +2,9 @@
 use borrow.Author.Needs.{needs}
 use native.Mathlib.Omega.{arith}
 use mathlib.Core.Path.{_≡_, sym, ap, _∙_, subst}
-use Prim.Native.Nat.{_≤_, _<_, _^_}
-use lib.Dec.{T}
+use Prim.Native.Nat.{_≤_, _^_}
 use lib.IntN.{ℤ, natAbs}
-use lib.Signed.{natAbs-le, nonNeg}
+use lib.Signed.{natAbs-le}
 use mir.Syntax.{w64}
 use mir.Val.{toZ, ofZ, SFits}
 use Rattle.numbers.specs.declared.Whole.the-variants.{Of}

@@ -1,5 +1,4 @@
 -- `sizing::in_bounds` meets its contract: two comparisons are the bound. Assumes nothing.
-use borrow.Author.Needs.{needs}
 use Rattle.sizing.proofs.Laws.{within-bounds}
 use Rattle.sizing.proofs.in_bounds.Statement.{statement}
 use Rattle.sizing.proofs.in_bounds.Tie as tie

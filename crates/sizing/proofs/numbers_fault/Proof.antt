@@ -1,13 +1,12 @@
 -- `sizing::numbers_fault` meets its contract: all numbers are in bounds exactly if the first place is the length. Assumes nothing.
 use borrow.Author.Needs.{needs}
 use borrow.Author.Tests.{lt-ltb, le-ltb}
-use native.Mathlib.Omega.{arith}
-use mathlib.Core.Path.{_≡_, sym, ap, _∙_, subst}
+use mathlib.Core.Path.{sym, ap, _∙_, subst}
 use Prim.Native.Nat.{ℕ, _+_, _<_}
 use lib.ListN.{length}
 use Rattle.grid.specs.declared.Checked.the-variants.{Fine}
 use Rattle.grid.specs.Answers.{faultAt}
-use Rattle.grid.specs.First.{firstNot, every}
+use Rattle.grid.specs.First.{firstNot}
 use Rattle.grid.proofs.First.{every-passes, some-fails}
 use Rattle.grid.proofs.Checks.{fault-here, fault-not}
 use Rattle.sizing.specs.Points.{bounded}

@@ -1,6 +1,6 @@
 -- `sizing::points_fault` meets its contract: the checks in the order of their numbers. Assumes nothing.
 use borrow.Author.Needs.{needs}
-use mathlib.Core.Path.{ap, _∙_}
+use mathlib.Core.Path.{_∙_}
 use Rattle.grid.specs.Answers.{_andThen_}
 use Rattle.sizing.proofs.points_fault.Statement.{statement}
 use Rattle.sizing.proofs.points_fault.Tie as tie

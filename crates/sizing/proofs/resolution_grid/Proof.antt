@@ -3,8 +3,6 @@ use borrow.Author.Needs.{needs}
 use mathlib.Core.Path.{_≡_, sym, ap, _∙_}
 use Prim.Native.Nat.{ℕ, _-_}
 use lib.Ieee.{Float, binary32, lt, div, ofBits}
-use Rattle.grid.specs.declared.Axes.{Axes}
-use Rattle.grid.specs.declared.Placement.{Placement}
 use Rattle.grid.proofs.Checks.{refused-here, refused-not}
 use Rattle.sizing.specs.Sizing.{mainOf, dmainOf, extent, extentAt, axisByResolution, countOf, placedAt, resolutionAxes, resolutionScale, gridOf, leastExtent}
 use Rattle.sizing.proofs.resolution_grid.Statement.{statement}

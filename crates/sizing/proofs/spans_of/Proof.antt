@@ -3,10 +3,7 @@ use borrow.Author.Needs.{needs}
 use native.Mathlib.Omega.{arith}
 use mathlib.Core.Path.{_≡_, ap, _∙_}
 use Prim.Native.Nat.{ℕ, _+_, _-_, _≤_, _<_}
-use lib.ListN.{length}
-use Rattle.sizing.specs.declared.Point.{Point}
-use Rattle.sizing.specs.declared.Spans.{Spans}
-use Rattle.sizing.specs.Sizing.{pointAt, spansAt, spansTo, spansWith}
+use Rattle.sizing.specs.Sizing.{spansAt, spansTo, spansWith}
 use Rattle.sizing.proofs.Laws.{spans-first, spans-next}
 use Rattle.sizing.proofs.spans_of.Statement.{statement}
 use Rattle.sizing.proofs.spans_of.Tie as tie

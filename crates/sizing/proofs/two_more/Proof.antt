@@ -2,15 +2,15 @@
 use borrow.Author.Needs.{needs}
 use native.Mathlib.Omega.{arith}
 use mathlib.Core.Path.{_≡_, sym, ap, _∙_, subst}
-use Prim.Native.Nat.{_≤_, _<_, _^_}
-use lib.Dec.{T}
+use Prim.Native.Nat.{_≤_, _^_}
 use lib.IntN.{ℤ, natAbs}
-use lib.Signed.{natAbs-le, nonNeg}
+use lib.Signed.{natAbs-le}
 use mir.Syntax.{w64}
 use mir.Val.{toZ, ofZ, SFits}
 use Rattle.numbers.specs.declared.Whole.the-variants.{Of}
 use Rattle.sizing.specs.Sizing.{twoMore}
-use Rattle.sizing.proofs.Laws.{two-none, two-one, two-some, not-below}
+use Rattle.sizing.proofs.Laws.{two-none, two-one, two-some}
+use Rattle.ints.specs.Casts.{not-below}
 use Rattle.sizing.proofs.two_more.Statement.{statement}
 use Rattle.sizing.proofs.two_more.Tie as tie
 
