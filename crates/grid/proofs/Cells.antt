@@ -12,7 +12,7 @@ use lib.Seq.{getD-set-same, getD-set-other, ext-getD}
 use borrow.Author.Tests.{eqb-true, eqb-false, eq-eqb}
 use Rattle.grid.specs.declared.Axes.{Axes}
 use Rattle.grid.specs.declared.Cell.{Cell}
-use Rattle.grid.specs.Grid.{Sound, num, cellOf, cells, InGrid, at, Next, along-i, along-j, along-k, Face, Border, first-i, first-j, first-k, last-i, last-j, last-k, onBorder}
+use Rattle.grid.specs.Grid.{Sound, num, cellNumbered, cells, InGrid, at, Next, along-i, along-j, along-k, Face, Border, first-i, first-j, first-k, last-i, last-j, last-k, onBorder}
 use Rattle.grid.proofs.First.{le-or-lt}
 
 pub dec-eq : {C : Type 0} (a b : ℕ) → (a ≡ b → C) → ((a ≡ b → ⊥) → C) → C
@@ -77,15 +77,15 @@ turn-round : (x y z : ℕ) → x * y * z ≡ z * y * x
 turn-round x y z = mul-comm (x * y) z ∙ ap (λ (t : ℕ). z * t) (mul-comm x y) ∙ sym (mul-assoc z y x)
 
 -- 01: number and coordinates determine each other
-pub num-of-cell : (r : Axes) (n : ℕ) → num r (cellOf r n) ≡ n
-num-of-cell r n = whole n (r .r0) (r .r1)
+pub number-of-cell : (r : Axes) (n : ℕ) → num r (cellNumbered r n) ≡ n
+number-of-cell r n = whole n (r .r0) (r .r1)
   where
     whole : (n x y : ℕ) → n % x + (n / x) % y * x + (n / x) / y * (x * y) ≡ n
     whole n x y =
         let q = n / x in
         omega (arith, div-add-mod' n x, ap (λ (t : ℕ). t * x) (div-add-mod' q y), add-mul (q / y * y) (q % y) x, mul-assoc (q / y) y x, ap (λ (t : ℕ). q / y * t) (mul-comm y x))
 
-pub cell-in : (r : Axes) (n : ℕ) → n < cells r → InGrid r (cellOf r n)
+pub cell-in : (r : Axes) (n : ℕ) → n < cells r → InGrid r (cellNumbered r n)
 cell-in r n h =
     let x = r .r0 in
     let y = r .r1 in
@@ -96,8 +96,8 @@ cell-in r n h =
     let b : n < z * y * x = rw (sym (turn-round x y z)) h in
     record { i-in = mod-lt n px; j-in = mod-lt (n / x) py; k-in = div-lt-iff-lt-mul py .1 (div-lt-iff-lt-mul px .1 b) }
 
-pub cell-of-num : (r : Axes) (c : Cell) → InGrid r c → cellOf r (num r c) ≡ c
-cell-of-num r c h = num-inj r (cellOf r (num r c)) c (cell-in r (num r c) (num-lt r c h)) h (num-of-cell r (num r c))
+pub cell-of-number : (r : Axes) (c : Cell) → InGrid r c → cellNumbered r (num r c) ≡ c
+cell-of-number r c h = num-inj r (cellNumbered r (num r c)) c (cell-in r (num r c) (num-lt r c h)) h (number-of-cell r (num r c))
 
 -- two cells of the grid are one, or they are not
 pub dec-cell : {C : Type 0} (r : Axes) (c d : Cell) → InGrid r c → InGrid r d → (c ≡ d → C) → ((c ≡ d → ⊥) → C) → C
@@ -106,7 +106,7 @@ dec-cell r c d h g y n = dec-eq (num r c) (num r d) (λ q. y (num-inj r c d h g 
 -- two lists of labels that agree at each cell are one
 pub by-cell : (r : Axes) (a b : List ℕ) → length a ≡ cells r → length b ≡ cells r → ((c : Cell) → InGrid r c → at r a c ≡ at r b c) → a ≡ b
 by-cell r a b p q h =
-    ext-getD 0 a b (p ∙ sym q) (λ n g. subst (λ (t : ℕ). getD a t 0 ≡ getD b t 0) (num-of-cell r n) (h (cellOf r n) (cell-in r n (omega (arith, p)))))
+    ext-getD 0 a b (p ∙ sym q) (λ n g. subst (λ (t : ℕ). getD a t 0 ≡ getD b t 0) (number-of-cell r n) (h (cellNumbered r n) (cell-in r n (omega (arith, p)))))
 
 -- ---- what a store changes
 

@@ -6,7 +6,7 @@ use lib.Dec.{T, eqb}
 use Rattle.grid.specs.declared.Checked.{Checked}
 use Rattle.grid.specs.declared.Checked.the-variants.{Fine, Fault}
 
--- 01, demand 1: "in an answer or a numbered refusal. A refusal gives number and place." Each call's enum has a definition that says which of these its cases are
+-- Demand 1: "in an answer or a numbered refusal. A refusal gives number and place." Each call's enum has a definition that says which of these its cases are
 pub data Outcome (A : Type 0) : Type 0 where
   answers : A → Outcome A
   refuses : ℕ → ℕ → Outcome A

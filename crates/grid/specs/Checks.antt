@@ -1,9 +1,9 @@
 -- The refusals 8, 9 and 11 of 01's table. Definitions only.
 use Prim.Native.Nat.{ℕ}
-use mathlib.Core.Bool.{Bool, not, _&&_, _||_}
-use mathlib.Core.List.{List}
+use mathlib.Core.Bool.{Bool, false, not, _||_}
+use mathlib.Core.List.{List, [], _∷_}
 use lib.Dec.{eqb, ltb}
-use lib.ListN.{length}
+use lib.ListN.{length, getD}
 use Rattle.grid.specs.declared.Axes.{Axes}
 use Rattle.grid.specs.declared.Checked.{Checked}
 use Rattle.grid.specs.declared.Checked.the-variants.{Fine}
@@ -24,18 +24,15 @@ abbrev pub axesFault : Axes → Checked
 axesFault r = faultIf (badAxis (r .r0)) 8 0 (faultIf (badAxis (r .r1)) 8 1 (faultIf (badAxis (r .r2)) 8 2 Fine))
 
 -- "9: label buffer length differs from the product of the axes"
-abbrev pub lengthFault : Axes → ℕ → Checked
-lengthFault r len = faultIf (not (eqb len (cells r))) 9 0 Fine
+abbrev pub bufferFault : Axes → ℕ → Checked
+bufferFault r len = faultIf (not (eqb len (cells r))) 9 0 Fine
 
 abbrev pub gridFault : Axes → ℕ → Checked
-gridFault r len = axesFault r andThen lengthFault r len
+gridFault r len = axesFault r andThen bufferFault r len
 
--- a label of the set: one of 0 to 8 that the set has
+-- a label of the set: flag v of its nine, and none past 8
 abbrev pub takes : LabelSet → ℕ → Bool
-takes s v =
-    (((eqb v 0 && s .l0) || (eqb v 1 && s .l1)) || (eqb v 2 && s .l2))
-    || (((eqb v 3 && s .l3) || (eqb v 4 && s .l4)) || (eqb v 5 && s .l5))
-    || (((eqb v 6 && s .l6) || (eqb v 7 && s .l7)) || (eqb v 8 && s .l8))
+takes s v = getD (s .l0 ∷ s .l1 ∷ s .l2 ∷ s .l3 ∷ s .l4 ∷ s .l5 ∷ s .l6 ∷ s .l7 ∷ s .l8 ∷ []) v false
 
 -- "11: a label the call does not take"; the place is the label's cell number
 abbrev pub labelsFault : LabelSet → List ℕ → Checked

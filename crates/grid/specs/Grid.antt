@@ -34,8 +34,8 @@ abbrev pub num : Axes → Cell → ℕ
 num r c = c .i + c .j * (r .r0) + c .k * (r .r0 * r .r1)
 
 -- "and number and coordinates determine each other": the cell of a number
-abbrev pub cellOf : Axes → ℕ → Cell
-cellOf r n = record { i = n % r .r0; j = n / r .r0 % r .r1; k = n / r .r0 / r .r1 }
+abbrev pub cellNumbered : Axes → ℕ → Cell
+cellNumbered r n = record { i = n % r .r0; j = n / r .r0 % r .r1; k = n / r .r0 / r .r1 }
 
 -- the label of a cell
 abbrev pub at : Axes → List ℕ → Cell → ℕ

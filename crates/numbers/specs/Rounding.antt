@@ -60,7 +60,7 @@ half = 2 ^ (splits - 1)
 abbrev pub floorZ : ℤ → ℕ → ℤ
 floorZ a d = shrZ a d
 
--- a whole number is given of every value under 2 ^ 40 in magnitude; no coordinate of an input that 01 accepts comes near it
+-- a whole number is given of every value under 2 ^ 40 in magnitude; a coordinate of an input that 01 accepts is at most 2 ^ 39
 abbrev pub limit : ℕ
 limit = 2 ^ 40
 

@@ -21,6 +21,7 @@ use Rattle.grid.specs.First.{firstNot}
 use Rattle.grid.specs.Grid.{Axis, Sound}
 use Rattle.grid.specs.Checks.{axesFault, badAxis}
 use Rattle.grid.proofs.Checks.{passed, both-fine, finds-if, finds-then, gives-unless, answered, axes-fine}
+use Rattle.sizing.specs.declared.Spans.{Spans}
 use Rattle.sizing.specs.declared.Sized.{Sized}
 use Rattle.sizing.specs.declared.Sized.the-variants.{Grid, Refused}
 use Rattle.sizing.specs.Points.{bounded, lengthFault, noneFault, numbersFault, pointsFault}
@@ -186,6 +187,25 @@ of-main P m dx dy dz x y z = go (eqb m 0) (eqb m 1)
 extent-finite : {d : Float} → Extent d → T (finite d)
 extent-finite {d} e = subst (λ (x : Float). T (finite x)) (sym (e .is)) tt
 
+module _ (ps : List Float) (f : pointsFault ps ≡ Fine) where
+  abbrev s : Spans
+  s = spansOf ps
+
+  extents : Extent (extent (s .x)) × Extent (extent (s .y)) × Extent (extent (s .z))
+  extents =
+      let x = x-spanned ps f in
+      let y = y-spanned ps f in
+      let z = z-spanned ps f in (
+        difference (s .x .lo) (s .x .hi) (x .low-bounded) (x .high-bounded) (x .in-order),
+        difference (s .y .lo) (s .y .hi) (y .low-bounded) (y .high-bounded) (y .in-order),
+        difference (s .z .lo) (s .z .hi) (z .low-bounded) (z .high-bounded) (z .in-order),
+      )
+
+  -- 01's refusal 7 speaks of the largest extent: that of the main axis is
+  pub main-largest : (le (extent (s .x)) (dmainOf s) ≡ true) × (le (extent (s .y)) (dmainOf s) ≡ true) × (le (extent (s .z)) (dmainOf s) ≡ true)
+  main-largest =
+      tallest (extent (s .x)) (extent (s .y)) (extent (s .z)) (extent-finite (extents .0)) (extent-finite (extents .1)) (extent-finite (extents .2))
+
 two-more-sound : (r n : ℕ) (w : Whole) → r ≤ 254 → w ≡ Of (pos n) → n ≤ r → Axis (twoMore w)
 unfolding twoMore
 two-more-sound r n w R e h = subst (λ (x : Whole). Axis (twoMore x)) (sym e) (record { some = omega arith; most = omega arith })
@@ -199,19 +219,14 @@ pub resolution-sound : (ps : List Float) (r : ℕ) → pointsFault ps ≡ Fine �
     → Sound (resolutionAxes (spansOf ps) r)
 resolution-sound ps r f g h =
     let s = spansOf ps in
-    let x = x-spanned ps f in
-    let y = y-spanned ps f in
-    let z = z-spanned ps f in
-    let dx = difference (s .x .lo) (s .x .hi) (x .low-bounded) (x .high-bounded) (x .in-order) in
-    let dy = difference (s .y .lo) (s .y .hi) (y .low-bounded) (y .high-bounded) (y .in-order) in
-    let dz = difference (s .z .lo) (s .z .hi) (z .low-bounded) (z .high-bounded) (z .in-order) in
-    let m = of-main Extent (mainOf s) (extent (s .x)) (extent (s .y)) (extent (s .z)) dx dy dz in
-    let t = tallest (extent (s .x)) (extent (s .y)) (extent (s .z)) (extent-finite dx) (extent-finite dy) (extent-finite dz) in
+    let d = extents ps f in
+    let m = of-main Extent (mainOf s) (extent (s .x)) (extent (s .y)) (extent (s .z)) (d .0) (d .1) (d .2) in
+    let t = main-largest ps f in
     let b = resolution-fine r g in
     let k = passed (lt (dmainOf s) leastExtent) 7 0 Fine h .0 in record {
-      axis0 = axis-sound r (b .0) (b .1) (eqb (mainOf s) 0) (extent (s .x)) (dmainOf s) dx m (t .0) k;
-      axis1 = axis-sound r (b .0) (b .1) (eqb (mainOf s) 1) (extent (s .y)) (dmainOf s) dy m (t .1) k;
-      axis2 = axis-sound r (b .0) (b .1) (eqb (mainOf s) 2) (extent (s .z)) (dmainOf s) dz m (t .2) k;
+      axis0 = axis-sound r (b .0) (b .1) (eqb (mainOf s) 0) (extent (s .x)) (dmainOf s) (d .0) m (t .0) k;
+      axis1 = axis-sound r (b .0) (b .1) (eqb (mainOf s) 1) (extent (s .y)) (dmainOf s) (d .1) m (t .1) k;
+      axis2 = axis-sound r (b .0) (b .1) (eqb (mainOf s) 2) (extent (s .z)) (dmainOf s) (d .2) m (t .2) k;
     }
 
 -- 1, 2, 3, 6, 7: never 8

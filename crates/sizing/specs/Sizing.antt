@@ -162,7 +162,7 @@ mainAxis dx dy dz = cond (tops dx dy dz) 0 (cond (tops dy dx dz) 1 2)
 abbrev pub extentAt : ℕ → Float → Float → Float → Float
 extentAt m dx dy dz = cond (eqb m 0) dx (cond (eqb m 1) dy dz)
 
--- "7: resolution way: largest extent under 2^-10"
+-- "7: resolution way: largest extent under 2^-10", which is the main axis's (`main-largest` in proofs/Ranges.antt)
 abbrev pub leastExtent : Float
 leastExtent = fin false 1 (negsuc 9)
 

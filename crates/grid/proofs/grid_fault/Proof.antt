@@ -9,7 +9,7 @@ use Rattle.grid.specs.declared.Checked.{Checked}
 use Rattle.grid.specs.declared.Checked.the-variants.{Fine}
 use Rattle.grid.specs.Answers.{_andThen_}
 use Rattle.grid.specs.Grid.{Sound, cells}
-use Rattle.grid.specs.Checks.{axesFault, lengthFault}
+use Rattle.grid.specs.Checks.{axesFault, bufferFault}
 use Rattle.grid.proofs.Cells.{cells-max}
 use Rattle.grid.proofs.Checks.{axes-fine, fault-here, fault-not}
 use Rattle.grid.proofs.grid_fault.Statement.{statement}
@@ -45,7 +45,7 @@ returns c =
     let t = c .before .before .before in
     let a = t .before .before .before .args in
     fault-not _ 9 0 Fine (ap not (eq-eqb (a .len) (cells (a .r)) (c .if1 .taken)))
-    ∙ ap (λ (f : Checked). f andThen lengthFault (a .r) (a .len)) (sym (fine t))
+    ∙ ap (λ (f : Checked). f andThen bufferFault (a .r) (a .len)) (sym (fine t))
 
 fault-requires : tie.Need-fault-requires
 fault-requires c κs = search needs
@@ -53,7 +53,7 @@ fault-requires c κs = search needs
 returns-2 : tie.Need-returns-2
 returns-2 c =
     let a = c .before .before .before .before .args in
-    ap (λ (f : Checked). f andThen lengthFault (a .r) (a .len)) (sym (c .before .f .given .1) ∙ c .before .before .before .axes-fault .ensures)
+    ap (λ (f : Checked). f andThen bufferFault (a .r) (a .len)) (sym (c .before .f .given .1) ∙ c .before .before .before .axes-fault .ensures)
 
 returns-3 : tie.Need-returns-3
 returns-3 c =
@@ -61,7 +61,7 @@ returns-3 c =
     let a = t .before .before .before .args in
     c .fault .ensures
     ∙ fault-here _ 9 0 Fine (ap not (ne-eqb (a .len) (cells (a .r)) (c .before .if1 .left)))
-    ∙ ap (λ (f : Checked). f andThen lengthFault (a .r) (a .len)) (sym (fine t))
+    ∙ ap (λ (f : Checked). f andThen bufferFault (a .r) (a .len)) (sym (fine t))
 
 pub grid-fault-spec : {M : Type 1} → statement M
 grid-fault-spec =
