@@ -17,7 +17,8 @@ leZ-antisym (pos m) (negsuc n) h k = absurd h
 leZ-antisym (negsuc m) (pos n) h k = absurd k
 leZ-antisym (negsuc m) (negsuc n) h k = ap negsuc (le-antisymm (leb→le m n k) (leb→le n m h))
 
-same-test : (p q : Bool) → (T p → T q) → (T q → T p) → p ≡ q
+-- two tests that hold alike are one
+pub same-test : (p q : Bool) → (T p → T q) → (T q → T p) → p ≡ q
 same-test true true f g = refl
 same-test true false f g = absurd (f tt)
 same-test false true f g = absurd (g tt)

@@ -19,16 +19,17 @@ use mir.ValLaws.{toZ-pos, toZ-ofZ, sfits-le}
 use borrow.Author.Needs.{sfits-of}
 use lib.Ieee.Nearest.{div-same}
 use borrow.Author.Tests.{lt-ltb, le-ltb, ne-eqb, ltb-true, ltb-false}
+use Rattle.ints.specs.Order.{same-test}
 use Rattle.numbers.specs.declared.Whole.{Whole}
 use Rattle.numbers.specs.declared.Whole.the-variants.{Of, TooLarge, NotANumber}
 use Rattle.numbers.specs.Rounding.{signed, floorZ, limit, pickWhole, within, floorTimes, ceilOf, truncOf, nearestOf}
 
 -- ---- equal fractions have the same floor
 
-pred-lt : (k a : ℕ) → k ≤ a → k < suc a
+pub pred-lt : (k a : ℕ) → k ≤ a → k < suc a
 pred-lt k a h = omega arith
 
-lt-pred : (k a : ℕ) → k < suc a → k ≤ a
+pub lt-pred : (k a : ℕ) → k < suc a → k ≤ a
 lt-pred k a h = omega arith
 
 below-same : (a b c d : ℕ) → 0 < b → 0 < d → suc a * d ≡ suc c * b → a / b ≤ c / d
@@ -52,12 +53,6 @@ floor-same true (suc a) b (suc c) d B D e = ap negsuc (le-antisymm (below-same a
 under : (a b c d P : ℕ) → 0 < b → 0 < d → a * d ≡ c * b → a < P * b → c < P * d
 under a b c d P B D e h =
     lt-of-mul-lt-mul-right b (lt-of-le-of-lt (le-of-eq (sym e)) (lt-of-lt-of-le (mul-lt-mul-of-pos-right h D) (le-of-eq (mul-right-comm P b d))))
-
-same-test : (p q : Bool) → (T p → T q) → (T q → T p) → p ≡ q
-same-test true true f g = refl
-same-test true false f g = absurd (f tt)
-same-test false true f g = absurd (g tt)
-same-test false false f g = refl
 
 within-same : (a b c d P : ℕ) → 0 < b → 0 < d → a * d ≡ c * b → ltb a (P * b) ≡ ltb c (P * d)
 within-same a b c d P B D e =

@@ -15,24 +15,19 @@ use Rattle.ints.specs.Order.{leZ-refl, leZ-antisym, leZ-neg}
 use Rattle.ints.specs.Ring.{mul-neg}
 use Rattle.numbers.specs.declared.Whole.the-variants.{Of, TooLarge}
 use Rattle.numbers.specs.Rounding.{IsFloor, IsCeil, IsNearest, IsCeiling, IsTruncation, limit, signed, floorZ, pickWhole, within, nearestOf, ceilOf, truncOf}
+use Rattle.numbers.proofs.Laws.{pred-lt, lt-pred}
 
 below-neg : (n : ℕ) (a : ℕ) → 0 < n → T (leZ (negℤ (pos n)) (pos a))
 below-neg zero a h = absurd (lt-irrefl 0 h)
 below-neg (suc n) a h = tt
 
-le-pred : (a n : ℕ) → a < suc n → a ≤ n
-le-pred a n h = omega arith
-
-pred-le : (a n : ℕ) → a ≤ n → a < suc n
-pred-le a n h = omega arith
-
 neg-le : (n a : ℕ) → 0 < n → T (leZ (negℤ (pos n)) (negsuc a)) → a < n
 neg-le zero a h t = absurd (lt-irrefl 0 h)
-neg-le (suc n) a h t = pred-le a n (leb→le a n t)
+neg-le (suc n) a h t = pred-lt a n (leb→le a n t)
 
 le-neg : (n a : ℕ) → 0 < n → a < n → T (leZ (negℤ (pos n)) (negsuc a))
 le-neg zero a h l = absurd (lt-irrefl 0 h)
-le-neg (suc n) a h l = le→leb a n (le-pred a n l)
+le-neg (suc n) a h l = le→leb a n (lt-pred a n l)
 
 -- ---- the floor and the ceiling of a fraction
 
@@ -43,8 +38,8 @@ floor-is (negsuc a) d D (pos k) = ((λ t. t), (λ t. t))
 floor-is (pos a) d D (negsuc k) = ((λ t. tt), (λ t. below-neg (suc k * d) a (mul-pos (zero-lt-suc k) D)))
 floor-is (negsuc a) d D (negsuc k) =
     let P = mul-pos (zero-lt-suc k) D in (
-      (λ t. le→leb (a / d) k (le-pred (a / d) k (div-lt-iff-lt-mul D .1 (neg-le (suc k * d) a P t)))),
-      (λ t. le-neg (suc k * d) a P (div-lt-iff-lt-mul D .0 (pred-le (a / d) k (leb→le (a / d) k t)))),
+      (λ t. le→leb (a / d) k (lt-pred (a / d) k (div-lt-iff-lt-mul D .1 (neg-le (suc k * d) a P t)))),
+      (λ t. le-neg (suc k * d) a P (div-lt-iff-lt-mul D .0 (pred-lt (a / d) k (leb→le (a / d) k t)))),
     )
 
 pub floor-one : (a : ℤ) (d : ℕ) (p q : ℤ) → IsFloor a d p → IsFloor a d q → p ≡ q

@@ -4,34 +4,38 @@ use mathlib.Core.Bool.{Bool, true, false, not, _&&_, _||_, true≢false, false�
 use Prim.Native.Nat.{ℕ, _+_, _*_, _≤_, _<_}
 use native.Mathlib.Nat.{mul-right-comm, mul-lt-mul-of-pos-right, lt-of-mul-lt-mul-right, zero-mul, add-mul}
 use native.Mathlib.Omega.{arith}
-use lib.Dec.{T, ltb, eqb}
+use lib.Dec.{T, ltb, leb, eqb, eqb→eq}
 use lib.Ieee.{Float, nan, inf, fin, up, down, below, level, lt, le, eq}
-use lib.Ieee.Fits.{down-pos}
+use lib.Ieee.Fits.{down-pos, eq→eqb}
 use lib.Ieee.Scale.{finite}
-use borrow.Author.Tests.{lt-ltb, le-ltb, eq-eqb, ltb-true, ltb-false, eqb-true, eqb-false}
+use borrow.Author.Tests.{lt-ltb, le-ltb, le-leb, lt-leb, eq-eqb, ltb-true, ltb-false, eqb-true, eqb-false}
+use Rattle.ints.specs.Order.{same-test}
 
 -- ---- of ±a and ±b
 
+pub eqb-sym : (a b : ℕ) → eqb a b ≡ eqb b a
+eqb-sym a b = same-test (eqb a b) (eqb b a) (λ t. eq→eqb (sym (eqb→eq a b t))) (λ t. eq→eqb (sym (eqb→eq b a t)))
+
+-- below or equal is at most
+pub le-test : (a b : ℕ) → (ltb a b || (eqb a b && true)) ≡ leb a b
+le-test a b = go (ltb a b) (eqb a b) refl refl
+  where
+    go : (p q : Bool) → ltb a b ≡ p → eqb a b ≡ q → (p || (q && true)) ≡ leb a b
+    go true q h k = let l = ltb-true a b h in sym (le-leb a b (omega arith))
+    go false true h k = let l = eqb-true a b k in sym (le-leb a b (omega arith))
+    go false false h k = let l = ltb-false a b h in let n = eqb-false a b k in sym (lt-leb a b (omega arith))
+
 -- at most is not above
+leb-not : (a b : ℕ) → leb a b ≡ not (ltb b a)
+leb-not a b = go (ltb b a) refl
+  where
+    go : (p : Bool) → ltb b a ≡ p → leb a b ≡ not p
+    go true h = lt-leb a b (ltb-true b a h)
+    go false h = le-leb a b (ltb-false b a h)
+
 level-or-below : (s : Bool) (a : ℕ) (t : Bool) (b : ℕ) → (below s a t b || level s a t b) ≡ not (below t b s a)
-level-or-below false a false b = same-sign a b
-  where
-    same-sign : (a b : ℕ) → (ltb a b || (eqb a b && true)) ≡ not (ltb b a)
-    same-sign a b = go (ltb a b) (eqb a b) refl refl
-      where
-        go : (p q : Bool) → ltb a b ≡ p → eqb a b ≡ q → (p || (q && true)) ≡ not (ltb b a)
-        go true q h k = let l : a < b = ltb-true a b h in sym (ap not (le-ltb b a (omega arith)))
-        go false true h k = let l : a ≡ b = eqb-true a b k in sym (ap not (le-ltb b a (omega arith)))
-        go false false h k = let l : b ≤ a = ltb-false a b h in let n = eqb-false a b k in sym (ap not (lt-ltb b a (omega arith)))
-level-or-below true a true b = same-sign b a (eqb a b) refl
-  where
-    same-sign : (b a : ℕ) (q : Bool) → eqb a b ≡ q → (ltb b a || (q && true)) ≡ not (ltb a b)
-    same-sign b a q k = go (ltb b a) q refl k
-      where
-        go : (p q : Bool) → ltb b a ≡ p → eqb a b ≡ q → (p || (q && true)) ≡ not (ltb a b)
-        go true q h k = let l : b < a = ltb-true b a h in sym (ap not (le-ltb a b (omega arith)))
-        go false true h k = let l : a ≡ b = eqb-true a b k in sym (ap not (le-ltb a b (omega arith)))
-        go false false h k = let l : a ≤ b = ltb-false b a h in let n = eqb-false a b k in sym (ap not (lt-ltb a b (omega arith)))
+level-or-below false a false b = le-test a b ∙ leb-not a b
+level-or-below true a true b = ap (λ (e : Bool). ltb b a || (e && true)) (eqb-sym a b) ∙ le-test b a ∙ leb-not b a
 level-or-below false a true b = go (ltb 0 (b + a)) refl
   where
     go : (p : Bool) → ltb 0 (b + a) ≡ p → (eqb a b && (false || eqb a 0)) ≡ not p

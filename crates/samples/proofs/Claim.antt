@@ -4,9 +4,9 @@ use lib.Ieee.{lt, le, sub, mul, div, ofInt}
 use Rattle.numbers.specs.Rounding.{ceilOf, truncOf, nearestOf}
 use Rattle.grid.specs.First.{firstNot}
 use Rattle.sizing.specs.Points.{bounded}
-use Rattle.sizing.specs.Sizing.{spansTo, cellsOf, twoMore}
+use Rattle.sizing.specs.Sizing.{spansTo, natural}
 use Rattle.samples.specs.Table.{All, table}
 
 pub samples : All table
-unfolding firstNot bounded spansTo cellsOf twoMore ceilOf truncOf nearestOf lt le sub mul div ofInt
+unfolding firstNot bounded spansTo natural ceilOf truncOf nearestOf lt le sub mul div ofInt
 samples = (refl, (refl, (refl, (refl, ((refl, refl), ((refl, refl), (refl, tt)))))))

@@ -2,53 +2,31 @@
 use mathlib.Core.Path.{_≡_, refl, sym, ap, _∙_}
 use mathlib.Core.Bool.{Bool, true, false, not, cond, _&&_, _||_, true≢false, false≢true}
 use mathlib.Core.List.{List}
-use Prim.Native.Nat.{ℕ, zero, suc, _+_, _-_, _*_, _/_, _%_, _^_, _≤_, _<_}
+use Prim.Native.Nat.{ℕ, _+_, _-_, _*_, _/_, _%_, _^_, _≤_, _<_}
 use native.Mathlib.Nat.{mul-pos, mul-one, one-mul}
 use native.Mathlib.Numerals.{add-one}
 use native.Mathlib.Omega.{arith}
 use lib.ListN.{length, getD}
-use lib.Dec.{T, ltb, leb, eqb}
+use lib.Dec.{ltb, leb, eqb}
 use lib.IntN.{ℤ, pos, negsuc, natAbs}
-use lib.Signed.{leZ, ltZ, nonNeg}
+use lib.Signed.{ltZ}
 use lib.Ieee.{Float, nan, inf, fin, up, down, binary32, lt, eq, le, neg, ofBits}
 use lib.Ieee.Fits.{down-pos}
 use lib.Pow.{pow-pos}
-use borrow.Author.Tests.{lt-ltb, le-leb, lt-leb, eq-eqb, ltb-true, ltb-false, leb-false, eqb-true, eqb-false}
+use borrow.Author.Tests.{lt-ltb, le-leb, lt-leb, ltb-true, ltb-false, eqb-true, eqb-false}
 use Rattle.numbers.specs.declared.Whole.the-variants.{Of}
+use Rattle.numbers.proofs.Order.{eqb-sym, le-test}
 use Rattle.grid.specs.declared.Checked.the-variants.{Fine}
 use Rattle.grid.specs.Answers.{_andThen_}
 use Rattle.grid.proofs.Checks.{passed, both-fine, first-fine}
 use Rattle.sizing.specs.Points.{bounded, lengthFault, noneFault, numbersFault, pointsFault}
-use Rattle.sizing.specs.Sizing.{leastSize, greatestSize, cellsOf, natural, pointAt, spansAt, spansWith, spansTo, twoMore, resolutionFault}
+use Rattle.sizing.specs.Sizing.{leastSize, greatestSize, larger, natural, pointAt, spansAt, spansWith, spansTo, resolutionFault}
 
 -- ---- the bound on a number, by two comparisons
 
--- less or equal, of two sizes
-le-test : (a b : ℕ) → (ltb a b || (eqb a b && true)) ≡ leb a b
-le-test a b = go (ltb a b) (eqb a b) refl refl
-  where
-    strict : (a b : ℕ) → b ≤ a → (a ≡ b → ⊥) → b < a
-    strict a b h n = omega arith
-
-    go : (p q : Bool) → ltb a b ≡ p → eqb a b ≡ q → (p || (q && true)) ≡ leb a b
-    go true q h k = let l : a < b = ltb-true a b h in sym (le-leb a b (omega arith))
-    go false true h k = let l : a ≡ b = eqb-true a b k in sym (le-leb a b (omega arith))
-    go false false h k = sym (lt-leb a b (strict a b (ltb-false a b h) (eqb-false a b k)))
-
--- the same where the sizes stand the other way round
+-- at most, where the sizes stand the other way round
 le-turned : (a b : ℕ) → (ltb a b || (eqb b a && true)) ≡ leb a b
-le-turned a b = ap (λ (t : Bool). ltb a b || (t && true)) (turned b a) ∙ le-test a b
-  where
-    turned : (a b : ℕ) → eqb a b ≡ eqb b a
-    turned a b = go (eqb a b) refl
-      where
-        go : (t : Bool) → eqb a b ≡ t → eqb a b ≡ eqb b a
-        go true e = e ∙ sym (eq-eqb b a (sym (eqb-true a b e)))
-        go false e = e ∙ go' (eqb b a) refl
-          where
-            go' : (u : Bool) → eqb b a ≡ u → false ≡ eqb b a
-            go' true d = absurd (eqb-false a b e (sym (eqb-true b a d)))
-            go' false d = sym d
+le-turned a b = ap (λ (t : Bool). ltb a b || (t && true)) (eqb-sym b a) ∙ le-test a b
 
 size : (k d : ℕ) → 1 * 2 ^ k * d ≡ 2 ^ k * d
 size k d = ap (λ (p : ℕ). p * d) (one-mul (2 ^ k))
@@ -94,47 +72,27 @@ pub size-tests : (x : Float) → (le (ofBits binary32 981467136) x && le x (ofBi
 unfolding ofBits
 size-tests x = refl
 
--- ---- the cells of an axis
+-- ---- a rounded quotient as a count
 
-pub cells-few : (z : ℤ) → leZ z (pos 2) ≡ true → 3 ≡ cellsOf (Of z)
-unfolding cellsOf
-cells-few (pos n) h = sym (ap (λ (b : Bool). cond b 2 n + 1) h)
-cells-few (negsuc n) h = refl
-
-pub cells-some : (z : ℤ) → leZ z (pos 2) ≡ false → natAbs z + 1 ≡ cellsOf (Of z)
-unfolding cellsOf
-cells-some (pos n) h = sym (ap (λ (b : Bool). cond b 2 n + 1) h)
-cells-some (negsuc n) h = absurd (true≢false h)
-
-pub above-zero : (z : ℤ) → leZ z (pos 2) ≡ false → T (nonNeg z)
-above-zero (pos n) h = tt
-above-zero (negsuc n) h = absurd (true≢false h)
-
--- ---- two more than a whole number
-
-pub two-none : (z : ℤ) → leZ z (negsuc 1) ≡ true → 0 ≡ twoMore (Of z)
-unfolding twoMore
-two-none (pos n) h = absurd (false≢true h)
-two-none (negsuc zero) h = absurd (false≢true h)
-two-none (negsuc (suc zero)) h = refl
-two-none (negsuc (suc (suc n))) h = ap (λ (b : Bool). natural (cond b (negsuc (suc (suc (suc n)) - 3)) (pos (2 - suc (suc (suc n)))))) (sym (lt-ltb 2 (suc (suc (suc n))) (omega arith)))
-
-pub two-one : (z : ℤ) → leZ z (negsuc 1) ≡ false → ltZ z (pos 0) ≡ true → 1 ≡ twoMore (Of z)
-unfolding twoMore
-two-one (pos n) h k = absurd (below n (ltb-true n 0 k))
+pub count-none : (z : ℤ) → ltZ z (pos 0) ≡ true → 0 ≡ natural (Of z)
+unfolding natural
+count-none (pos n) h = absurd (none n (ltb-true n 0 h))
   where
-    below : (n : ℕ) → n < 0 → ⊥
-    below n h = omega arith
-two-one (negsuc zero) h k = refl
-two-one (negsuc (suc n)) h k = let l : suc n < 1 = leb-false 1 (suc n) h in absurd (none n l)
-  where
-    none : (n : ℕ) → suc n < 1 → ⊥
+    none : (n : ℕ) → n < 0 → ⊥
     none n l = omega arith
+count-none (negsuc n) h = refl
 
-pub two-some : (z : ℤ) → ltZ z (pos 0) ≡ false → natAbs z + 2 ≡ twoMore (Of z)
-unfolding twoMore
-two-some (pos n) h = refl
-two-some (negsuc n) h = absurd (true≢false h)
+pub count-some : (z : ℤ) → ltZ z (pos 0) ≡ false → natAbs z ≡ natural (Of z)
+unfolding natural
+count-some (pos n) h = refl
+count-some (negsuc n) h = absurd (true≢false h)
+
+-- the larger of n and 2, and one more
+pub few-cells : (n : ℕ) → n ≤ 2 → 3 ≡ larger n 2 + 1
+few-cells n h = sym (ap (λ (b : Bool). cond b 2 n + 1) (le-leb n 2 h))
+
+pub some-cells : (n : ℕ) → 2 < n → n + 1 ≡ larger n 2 + 1
+some-cells n h = sym (ap (λ (b : Bool). cond b 2 n + 1) (lt-leb n 2 h))
 
 -- ---- the spans of the points so far
 

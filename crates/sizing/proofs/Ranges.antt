@@ -11,7 +11,7 @@ use lib.Ieee.{Float, fin, binary32, lt, le, div, mul}
 use lib.Ieee.Scale.{finite}
 use borrow.Author.Tests.{leb-false}
 use Rattle.numbers.specs.declared.Whole.{Whole}
-use Rattle.numbers.specs.declared.Whole.the-variants.{Of, TooLarge, NotANumber}
+use Rattle.numbers.specs.declared.Whole.the-variants.{Of}
 use Rattle.numbers.specs.Rounding.{ceilOf, truncOf}
 use Rattle.numbers.proofs.Order.{lt-through, lt-asym, lt-le, not-lt-le, not-le-lt, le-self}
 use Rattle.grid.specs.declared.Axes.{Axes}
@@ -25,7 +25,7 @@ use Rattle.sizing.specs.declared.Spans.{Spans}
 use Rattle.sizing.specs.declared.Sized.{Sized}
 use Rattle.sizing.specs.declared.Sized.the-variants.{Grid, Refused}
 use Rattle.sizing.specs.Points.{bounded, lengthFault, noneFault, numbersFault, pointsFault}
-use Rattle.sizing.specs.Sizing.{Laid, outcome, Smallest, extent, spansOf, placedAt, sizeFault, cellsOf, larger, natural, sizeAxes, gridOf, sizeGrid, bySize, resolutionFault, tops, mainAxis, extentAt, leastExtent, extentFault, countOf, twoMore, mainOf, dmainOf, resolutionAxes, resolutionScale, resolutionGrid, byResolution, leastSize, greatestSize}
+use Rattle.sizing.specs.Sizing.{Laid, outcome, Smallest, extent, spansOf, placedAt, sizeFault, larger, natural, sizeAxes, gridOf, sizeGrid, bySize, resolutionFault, tops, mainAxis, extentAt, leastExtent, extentFault, countOf, mainOf, dmainOf, resolutionAxes, resolutionScale, resolutionGrid, byResolution, leastSize, greatestSize}
 use Rattle.sizing.proofs.Laws.{resolution-fine}
 use Rattle.sizing.proofs.Extremes.{x-spanned, y-spanned, z-spanned}
 use Rattle.sizing.proofs.Ratio.{Extent, difference, whole-part}
@@ -104,18 +104,12 @@ module _ (ps : List Float) (points-fine : pointsFault ps ≡ Fine) (scale : Floa
       })
 
 -- each axis by size has 3 cells at least
-three-cells : (w : Whole) → 3 ≤ cellsOf w
-unfolding cellsOf
-three-cells (Of z) = two-at-least (natural z)
+three-cells : (n : ℕ) → 3 ≤ larger n 2 + 1
+three-cells n = go (leb n 2) refl
   where
-    two-at-least : (n : ℕ) → 3 ≤ larger n 2 + 1
-    two-at-least n = go (leb n 2) refl
-      where
-        go : (b : Bool) → leb n 2 ≡ b → 3 ≤ cond b 2 n + 1
-        go true h = omega arith
-        go false h = let l = leb-false n 2 h in omega arith
-three-cells TooLarge = omega arith
-three-cells NotANumber = omega arith
+    go : (b : Bool) → leb n 2 ≡ b → 3 ≤ cond b 2 n + 1
+    go true h = omega arith
+    go false h = let l = leb-false n 2 h in omega arith
 
 pub size-answer : (ps : List Float) (size : Float) (l : Laid) → bySize ps size ≡ answers l
     → Answered ps size l × (3 ≤ l .axes .r0) × (3 ≤ l .axes .r1) × (3 ≤ l .axes .r2)
@@ -125,9 +119,9 @@ size-answer ps size l h =
     let s = spansOf ps in
     let e = is-laid ps (f .0) size (sizeAxes s size) l (w .1) .1 in (
       answered-by ps (f .0) size (sizeAxes s size) l (w .1),
-      subst (λ (x : Laid). 3 ≤ x .axes .r0) e (three-cells (ceilOf (div binary32 (extent (s .x)) size))),
-      subst (λ (x : Laid). 3 ≤ x .axes .r1) e (three-cells (ceilOf (div binary32 (extent (s .y)) size))),
-      subst (λ (x : Laid). 3 ≤ x .axes .r2) e (three-cells (ceilOf (div binary32 (extent (s .z)) size))),
+      subst (λ (x : Laid). 3 ≤ x .axes .r0) e (three-cells (natural (ceilOf (div binary32 (extent (s .x)) size)))),
+      subst (λ (x : Laid). 3 ≤ x .axes .r1) e (three-cells (natural (ceilOf (div binary32 (extent (s .y)) size)))),
+      subst (λ (x : Laid). 3 ≤ x .axes .r2) e (three-cells (natural (ceilOf (div binary32 (extent (s .z)) size)))),
     )
 
 -- ---- the main axis has the greatest extent
@@ -206,12 +200,12 @@ module _ (ps : List Float) (f : pointsFault ps ≡ Fine) where
   main-largest =
       tallest (extent (s .x)) (extent (s .y)) (extent (s .z)) (extent-finite (extents .0)) (extent-finite (extents .1)) (extent-finite (extents .2))
 
-two-more-sound : (r n : ℕ) (w : Whole) → r ≤ 254 → w ≡ Of (pos n) → n ≤ r → Axis (twoMore w)
-unfolding twoMore
-two-more-sound r n w R e h = subst (λ (x : Whole). Axis (twoMore x)) (sym e) (record { some = omega arith; most = omega arith })
+two-more-sound : (r n : ℕ) (w : Whole) → r ≤ 254 → w ≡ Of (pos n) → n ≤ r → Axis (2 + natural w)
+unfolding natural
+two-more-sound r n w R e h = subst (λ (x : Whole). Axis (2 + natural x)) (sym e) (record { some = omega arith; most = omega arith })
 
 axis-sound : (r : ℕ) → 2 ≤ r → r ≤ 254 → (t : Bool) (d m : Float) → Extent d → Extent m → le d m ≡ true → lt m leastExtent ≡ false
-    → Axis (cond t r (twoMore (truncOf (div binary32 (mul binary32 (countOf r) d) m))))
+    → Axis (cond t r (2 + natural (truncOf (div binary32 (mul binary32 (countOf r) d) m))))
 axis-sound r L R true d m D M h k = record { some = omega arith; most = omega arith }
 axis-sound r L R false d m D M h k = let w = whole-part r R d m D M h k in two-more-sound r (w .0) (truncOf (div binary32 (mul binary32 (countOf r) d) m)) R (w .1) (w .2)
 

@@ -5,7 +5,7 @@ use mathlib.Core.Path.{_≡_, refl, sym, ap, _∙_, subst}
 use mathlib.Core.Logic.{_⊎_, inl, inr}
 use mathlib.Core.Bool.{Bool, true, false, not, cond, _&&_, _||_, true≢false, false≢true}
 use Prim.Native.Nat.{ℕ, zero, suc, _+_, _-_, _*_, _/_, _%_, _^_, _≤_, _<_}
-use native.Mathlib.Nat.{le-trans, le-of-eq, le-of-lt, lt-of-lt-of-le, lt-of-le-of-lt, lt-of-not-le, not-le-of-lt, lt-irrefl, le-of-suc-le-suc}
+use native.Mathlib.Nat.{le-trans, le-of-eq, lt-of-lt-of-le, lt-of-le-of-lt, lt-of-not-le, not-le-of-lt, lt-irrefl, le-of-suc-le-suc}
 use native.Mathlib.Nat.{zero-mul, mul-zero, one-mul, mul-one, suc-mul, add-mul, mul-comm, mul-assoc, mul-left-comm, mul-right-comm, mul-pos}
 use native.Mathlib.Nat.{mul-le-mul-left, mul-le-mul-right, le-of-mul-le-mul-right, lt-div-mul-add, div-mul-le-self, div-lt-iff-lt-mul}
 use native.Mathlib.Omega.{arith}
@@ -22,6 +22,7 @@ use borrow.Author.Needs.{zero≤}
 use borrow.Author.Tests.{lt-ltb, ne-eqb, ltb-true, ltb-false, leb-true}
 use Rattle.numbers.specs.declared.Whole.the-variants.{Of, TooLarge}
 use Rattle.numbers.specs.Rounding.{limit, pickWhole, truncOf}
+use Rattle.numbers.proofs.Order.{le-test}
 use Rattle.numbers.proofs.Sign.{round-none}
 use Rattle.sizing.specs.Points.{bounded}
 
@@ -46,11 +47,7 @@ record Capped (x : Float) (b d : ℕ) : Type 0 where
 
 -- what `le` tests of two numbers with no sign
 in-order : (a b : ℕ) → T (ltb a b || (eqb a b && true)) → a ≤ b
-in-order a b h = go (ltb a b) refl h
-  where
-    go : (t : Bool) → ltb a b ≡ t → T (t || (eqb a b && true)) → a ≤ b
-    go true e h = le-of-lt (ltb-true a b e)
-    go false e h = le-of-eq (eqb→eq a b (and-l (eqb a b) true h))
+in-order a b h = leb→le a b (subst T (le-test a b) h)
 
 -- a number or an infinity, with no sign
 abbrev plain : Float → Bool

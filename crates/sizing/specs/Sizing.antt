@@ -1,11 +1,11 @@
 -- 01, Sizing and placement, of the list of the points' numbers, three to a point. Each operation on floats is IEEE 754's on an f32, rounded once, in the order given. Definitions only.
-use Prim.Native.Nat.{ℕ, zero, suc, _+_, _-_, _*_, _/_, _<_}
+use Prim.Native.Nat.{ℕ, zero, suc, _+_, _-_, _*_, _/_, _^_, _≤_, _<_}
 use mathlib.Core.Bool.{Bool, true, false, not, cond, _&&_, _||_}
 use mathlib.Core.Path.{_≡_}
 use mathlib.Core.List.{List}
 use lib.ListN.{length, getD}
 use lib.Dec.{leb, ltb, eqb}
-use lib.IntN.{ℤ, pos, negsuc, _+ℤ_}
+use lib.IntN.{pos, negsuc}
 use lib.Ieee.{Float, nan, fin, binary32, lt, le, sub, mul, div, ofInt}
 use Rattle.numbers.specs.declared.Whole.{Whole}
 use Rattle.numbers.specs.declared.Whole.the-variants.{Of, TooLarge, NotANumber}
@@ -113,23 +113,20 @@ sizeFault size = faultIf (not (le leastSize size && le size greatestSize)) 5 0 F
 abbrev pub larger : ℕ → ℕ → ℕ
 larger a b = cond (leb a b) b a
 
--- a whole number, 0 for those below 0
-abbrev pub natural : ℤ → ℕ
-natural (pos n) = n
-natural (negsuc n) = 0
+-- a rounded quotient as a count: 0 for a whole number below 0, as the crate's cast has it. One that is too large, or none, is more than any axis has
+unfoldable pub natural : Whole → ℕ
+natural (Of (pos n)) = n
+natural (Of (negsuc n)) = 0
+natural TooLarge = 257
+natural NotANumber = 257
 
--- a quotient that is no whole number under 2 ^ 40 is no axis: it has more than 256 cells
-abbrev pub beyond : ℕ
-beyond = 257
-
--- max(n, 2) + 1
-unfoldable pub cellsOf : Whole → ℕ
-cellsOf (Of z) = larger (natural z) 2 + 1
-cellsOf TooLarge = beyond
-cellsOf NotANumber = beyond
+-- the same as a promise: the count, which leaves room for two more
+pub record Counted (w : Whole) (r : ℕ) : Type 0 where
+  pub is : r ≡ natural w
+  pub room : r ≤ 2 ^ 63
 
 abbrev pub axisBySize : Span → Float → ℕ
-axisBySize s size = cellsOf (ceilOf (div binary32 (extent s) size))
+axisBySize s size = larger (natural (ceilOf (div binary32 (extent s) size))) 2 + 1
 
 abbrev pub sizeAxes : Spans → Float → Axes
 sizeAxes s size = record { r0 = axisBySize (s .x) size; r1 = axisBySize (s .y) size; r2 = axisBySize (s .z) size }
@@ -173,15 +170,9 @@ extentFault dmain = faultIf (lt dmain leastExtent) 7 0 Fine
 abbrev pub countOf : ℕ → Float
 countOf r = ofInt binary32 (pos r)
 
--- 2 + n
-unfoldable pub twoMore : Whole → ℕ
-twoMore (Of z) = natural (z +ℤ pos 2)
-twoMore TooLarge = beyond
-twoMore NotANumber = beyond
-
 -- "Main axis R; each other axis 2 + trunc((R * d) / dmain)."
 abbrev pub axisByResolution : ℕ → ℕ → ℕ → Float → Float → ℕ
-axisByResolution r m a d dmain = cond (eqb m a) r (twoMore (truncOf (div binary32 (mul binary32 (countOf r) d) dmain)))
+axisByResolution r m a d dmain = cond (eqb m a) r (2 + natural (truncOf (div binary32 (mul binary32 (countOf r) d) dmain)))
 
 -- the main axis of some spans, and its extent
 abbrev pub mainOf : Spans → ℕ

@@ -5,7 +5,7 @@ ghost use Prim.Native.Nat.{_+_, _*_, _≤_, _<_};
 ghost use lib.ListN.{length};
 ghost use Rattle.grid.specs.First.{firstNot, every};
 ghost use Rattle.sizing.specs.Points.{bounded, lengthFault, noneFault, numbersFault, pointsFault};
-ghost use Rattle.sizing.specs.Sizing.{outcome, lower, upper, pointAt, spansAt, spanWith, spansWith, spansOf, placedAt, sizeFault, cellsOf, axisBySize, gridOf, sizeGrid, bySize, resolutionFault, tops, mainAxis, extentAt, twoMore, countOf, axisByResolution, resolutionGrid, byResolution};
+ghost use Rattle.sizing.specs.Sizing.{outcome, lower, upper, pointAt, spansAt, spanWith, spansWith, spansOf, placedAt, sizeFault, Counted, axisBySize, gridOf, sizeGrid, bySize, resolutionFault, tops, mainAxis, extentAt, countOf, axisByResolution, resolutionGrid, byResolution};
 use grid::Axes;
 use grid::Checked;
 use grid::Placement;
@@ -192,6 +192,22 @@ fn placed(s: Spans, scale: f32) -> Placement
     }
 }
 
+// A rounded quotient as a count of cells; one that is too large, or none, is more than any axis has.
+fn counted(w: Whole) -> usize
+    ensures { λ r. ⌜ Counted w r ⌝ }
+{
+    match w {
+        Whole::Of(n) => {
+            if n < 0 {
+                return 0;
+            }
+            n as usize
+        }
+        Whole::TooLarge => 257,
+        Whole::NotANumber => 257,
+    }
+}
+
 // The grid of these axes at this place, or refusal 8.
 fn graded(a: Axes, p: Placement) -> Sized
     ensures { λ r. ⌜ outcome r ≡ gridOf a p ⌝ }
@@ -214,26 +230,14 @@ fn size_fault(size: f32) -> Checked
     grid::fault(5, 0)
 }
 
-// max(n, 2) + 1
-fn cells(w: Whole) -> usize
-    ensures { λ r. ⌜ r ≡ cellsOf w ⌝ }
-{
-    match w {
-        Whole::Of(n) => {
-            if n <= 2 {
-                return 3;
-            }
-            n as usize + 1
-        }
-        Whole::TooLarge => 257,
-        Whole::NotANumber => 257,
-    }
-}
-
 fn axis_by_size(s: Span, size: f32) -> usize
     ensures { λ r. ⌜ r ≡ axisBySize s size ⌝ }
 {
-    cells(numbers::ceil((s.hi - s.lo) / size))
+    let n = counted(numbers::ceil((s.hi - s.lo) / size));
+    if n <= 2 {
+        return 3;
+    }
+    n + 1
 }
 
 fn size_grid(s: Spans, size: f32) -> Sized
@@ -299,27 +303,8 @@ fn extent_at(m: u8, dx: f32, dy: f32, dz: f32) -> f32
     dz
 }
 
-// 2 + n
-fn two_more(w: Whole) -> usize
-    ensures { λ r. ⌜ r ≡ twoMore w ⌝ }
-{
-    match w {
-        Whole::Of(n) => {
-            if n <= -2 {
-                return 0;
-            }
-            if n < 0 {
-                return 1;
-            }
-            n as usize + 2
-        }
-        Whole::TooLarge => 257,
-        Whole::NotANumber => 257,
-    }
-}
-
 // A resolution, or one less, as a float.
-fn counted(r: u32) -> f32
+fn as_float(r: u32) -> f32
     requires { ⌜ r ≤ 254 ⌝ }
     ensures { λ f. ⌜ f ≡ countOf r ⌝ }
 {
@@ -334,7 +319,7 @@ fn axis_by_resolution(r: u32, m: u8, a: u8, d: f32, dmain: f32) -> usize
     if m == a {
         return r as usize;
     }
-    two_more(numbers::trunc(counted(r) * d / dmain))
+    2 + counted(numbers::trunc(as_float(r) * d / dmain))
 }
 
 fn resolution_grid(s: Spans, r: u32) -> Sized
@@ -355,7 +340,7 @@ fn resolution_grid(s: Spans, r: u32) -> Sized
     let r0 = axis_by_resolution(r, m, 0, dx, dmain);
     let r1 = axis_by_resolution(r, m, 1, dy, dmain);
     let r2 = axis_by_resolution(r, m, 2, dz, dmain);
-    graded(Axes { r0, r1, r2 }, placed(s, dmain / counted(r - 1)))
+    graded(Axes { r0, r1, r2 }, placed(s, dmain / as_float(r - 1)))
 }
 
 // The grid over the points whose main axis has r cells.

@@ -2,6 +2,8 @@
 use Prim.Native.Nat.{_+_}
 use native.Mathlib.Omega.{arith}
 use borrow.Author.Needs.{needs}
+use mathlib.Core.Path.{refl}
+use Rattle.replay.specs.Words.{wordAt}
 use Rattle.replay.proofs.word.Statement.{statement}
 use Rattle.replay.proofs.word.Tie as tie
 
@@ -57,7 +59,8 @@ add-result-6 : tie.Need-add-result-6
 add-result-6 c = omega (arith, c .shared-slice-known4 .given (c .before .before .before .before .args .at), c .shared-slice-known4 .given (c .before .before .before .before .args .at + 1), c .shared-slice-known4 .given (c .before .before .before .before .args .at + 2), c .shared-slice-known4 .given (c .before .before .before .before .args .at + 3))
 
 returns : tie.Need-returns
-returns c = search needs
+unfolding wordAt
+returns c = refl
 
 pub word-spec : {M : Type 1} → statement M
 word-spec =

@@ -33,11 +33,11 @@ axis-by-resolution-requires-2 c κs = search needs
 axis-by-resolution-requires-3 : tie.Need-axis-by-resolution-requires-3
 axis-by-resolution-requires-3 c κs = search needs
 
-sub-counted : tie.Need-sub-counted
-sub-counted c = search needs
+sub-as-float : tie.Need-sub-as-float
+sub-as-float c = search needs
 
-counted-requires : tie.Need-counted-requires
-counted-requires c κs = search needs
+as-float-requires : tie.Need-as-float-requires
+as-float-requires c κs = search needs
 
 placed-requires : tie.Need-placed-requires
 placed-requires c κs = search needs
@@ -62,11 +62,11 @@ returns-2 c =
     let e0 : a0 .axis-by-resolution .result ≡ resolutionAxes s r .r0 = a0 .axis-by-resolution .ensures ∙ (λ t. axisByResolution r (em t) 0 (extent (s .x)) (ed t)) in
     let e1 : a1 .axis-by-resolution2 .result ≡ resolutionAxes s r .r1 = a1 .axis-by-resolution2 .ensures ∙ (λ t. axisByResolution r (em t) 1 (extent (s .y)) (ed t)) in
     let e2 : a2 .axis-by-resolution3 .result ≡ resolutionAxes s r .r2 = a2 .axis-by-resolution3 .ensures ∙ (λ t. axisByResolution r (em t) 2 (extent (s .z)) (ed t)) in
-    let k : n .counted .result ≡ countOf (r - 1) = n .counted .ensures in
+    let k : n .as-float .result ≡ countOf (r - 1) = n .as-float .ensures in
     let at : p .placed .result ≡ placedAt s (resolutionScale s r) = p .placed .ensures ∙ (λ t. placedAt s (div binary32 (ed t) (k t))) in
     c .graded .ensures
     ∙ (λ t. gridOf (record { r0 = e0 t; r1 = e1 t; r2 = e2 t }) (at t))
     ∙ refused-not _ 7 0 _ (ap (λ (d : Float). lt d leastExtent) (sym ed) ∙ e .if1 .left)
 
 pub resolution-grid-spec : {M : Type 1} → statement M
-resolution-grid-spec = tie.close (tie.spec main-axis-requires extent-at-requires returns axis-by-resolution-requires axis-by-resolution-requires-2 axis-by-resolution-requires-3 sub-counted counted-requires placed-requires graded-requires returns-2)
+resolution-grid-spec = tie.close (tie.spec main-axis-requires extent-at-requires returns axis-by-resolution-requires axis-by-resolution-requires-2 axis-by-resolution-requires-3 sub-as-float as-float-requires placed-requires graded-requires returns-2)
