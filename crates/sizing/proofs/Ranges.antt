@@ -28,7 +28,7 @@ use Rattle.sizing.specs.Points.{bounded, lengthFault, noneFault, numbers
 use Rattle.sizing.specs.Sizing.{Laid, outcome, Smallest, extent, spansOf, placedAt, sizeFault, larger, natural, sizeAxes, gridOf, sizeGrid, bySize, resolutionFault, tops, mainAxis, extentAt, leastExtent, extentFault, countOf, mainOf, dmainOf, resolutionAxes, resolutionScale, resolutionGrid, byResolution, leastSize, greatestSize}
 use Rattle.sizing.proofs.Laws.{resolution-fine}
 use Rattle.sizing.proofs.Extremes.{x-spanned, y-spanned, z-spanned}
-use Rattle.sizing.proofs.Ratio.{Extent, difference, whole-part}
+use Rattle.sizing.proofs.Ratio.{Extent, difference, whole-part, whole-quotient}
 
 -- ---- two results that fit a call's promise are one
 
@@ -200,6 +200,25 @@ module _ (ps : List Float) (f : pointsFault ps ≡ Fine) where
   main-largest =
       tallest (extent (s .x)) (extent (s .y)) (extent (s .z)) (extent-finite (extents .0)) (extent-finite (extents .1)) (extent-finite (extents .2))
 
+-- a rounded quotient that is a count, so that what `natural` has for any other never shows
+abbrev pub IsCount : Whole → Type 0
+IsCount w = (n : ℕ) × (w ≡ Of (pos n))
+
+not-false : (b : Bool) → not b ≡ false → b ≡ true
+not-false true h = refl
+not-false false h = absurd (true≢false h)
+
+-- by size and by resolution every axis is made of one
+pub size-counts : (ps : List Float) (size : Float) → pointsFault ps ≡ Fine → sizeFault size ≡ Fine
+    → IsCount (ceilOf (div binary32 (extent (spansOf ps .x)) size)) × IsCount (ceilOf (div binary32 (extent (spansOf ps .y)) size)) × IsCount (ceilOf (div binary32 (extent (spansOf ps .z)) size))
+size-counts ps size f g =
+    let s = spansOf ps in
+    let d = extents ps f in
+    let b = not-false (le leastSize size && le size greatestSize) (passed (not (le leastSize size && le size greatestSize)) 5 0 Fine g .0) in
+    let lo = and-left (le leastSize size) (le size greatestSize) b in
+    let hi = and-right (le leastSize size) (le size greatestSize) b in
+    (whole-quotient (extent (s .x)) size (d .0) lo hi, whole-quotient (extent (s .y)) size (d .1) lo hi, whole-quotient (extent (s .z)) size (d .2) lo hi)
+
 two-more-sound : (r n : ℕ) (w : Whole) → r ≤ 254 → w ≡ Of (pos n) → n ≤ r → Axis (2 + natural w)
 unfolding natural
 two-more-sound r n w R e h = subst (λ (x : Whole). Axis (2 + natural x)) (sym e) (record { some = omega arith; most = omega arith })
@@ -222,6 +241,22 @@ resolution-sound ps r f g h =
       axis1 = axis-sound r (b .0) (b .1) (eqb (mainOf s) 1) (extent (s .y)) (dmainOf s) (d .1) m (t .1) k;
       axis2 = axis-sound r (b .0) (b .1) (eqb (mainOf s) 2) (extent (s .z)) (dmainOf s) (d .2) m (t .2) k;
     }
+
+pub resolution-counts : (ps : List Float) (r : ℕ) → pointsFault ps ≡ Fine → resolutionFault r ≡ Fine → extentFault (dmainOf (spansOf ps)) ≡ Fine
+    → IsCount (truncOf (div binary32 (mul binary32 (countOf r) (extent (spansOf ps .x))) (dmainOf (spansOf ps))))
+    × IsCount (truncOf (div binary32 (mul binary32 (countOf r) (extent (spansOf ps .y))) (dmainOf (spansOf ps))))
+    × IsCount (truncOf (div binary32 (mul binary32 (countOf r) (extent (spansOf ps .z))) (dmainOf (spansOf ps))))
+resolution-counts ps r f g h =
+    let s = spansOf ps in
+    let d = extents ps f in
+    let m = of-main Extent (mainOf s) (extent (s .x)) (extent (s .y)) (extent (s .z)) (d .0) (d .1) (d .2) in
+    let t = main-largest ps f in
+    let R = resolution-fine r g .1 in
+    let k = passed (lt (dmainOf s) leastExtent) 7 0 Fine h .0 in
+    let x = whole-part r R (extent (s .x)) (dmainOf s) (d .0) m (t .0) k in
+    let y = whole-part r R (extent (s .y)) (dmainOf s) (d .1) m (t .1) k in
+    let z = whole-part r R (extent (s .z)) (dmainOf s) (d .2) m (t .2) k in
+    ((x .0, x .1), (y .0, y .1), (z .0, z .1))
 
 -- 1, 2, 3, 6, 7: never 8
 pub resolution-numbers : (ps : List Float) (r : ℕ) → Gives (1 ∷ 2 ∷ 3 ∷ 6 ∷ 7 ∷ []) (byResolution ps r)

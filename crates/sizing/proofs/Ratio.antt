@@ -1,16 +1,16 @@
--- Two laws of `f32` numbers: a difference of two bounded numbers in order is bounded and not below 0 (`difference`), and r d / m has a whole
+-- Three laws of `f32` numbers: a difference of two bounded numbers in order is bounded and not below 0 (`difference`); r d / m has a whole
 -- part of at most r where d is at most m (`whole-part`): rounding does not lift it to r + 1, since a value of the format lies just above
--- r m, and another one at r + 1/2. Sizes are fractions of natural numbers: that of `fin s m e` is m * up e / down e. Assumes nothing.
+-- r m, and another one at r + 1/2; and d over a cell size is never too large (`whole-quotient`). Sizes are fractions of natural numbers: that of `fin s m e` is m * up e / down e. Assumes nothing.
 use mathlib.Core.Path.{_≡_, refl, sym, ap, _∙_, subst}
 use mathlib.Core.Logic.{_⊎_, inl, inr}
 use mathlib.Core.Bool.{Bool, true, false, not, cond, _&&_, _||_, true≢false, false≢true}
 use Prim.Native.Nat.{ℕ, zero, suc, _+_, _-_, _*_, _/_, _%_, _^_, _≤_, _<_}
 use native.Mathlib.Nat.{le-trans, le-of-eq, lt-of-lt-of-le, lt-of-le-of-lt, lt-of-not-le, not-le-of-lt, lt-irrefl, le-of-suc-le-suc}
-use native.Mathlib.Nat.{zero-mul, mul-zero, one-mul, mul-one, suc-mul, add-mul, mul-comm, mul-assoc, mul-left-comm, mul-right-comm, mul-pos}
+use native.Mathlib.Nat.{zero-div, zero-mul, mul-zero, one-mul, mul-one, suc-mul, add-mul, mul-comm, mul-assoc, mul-left-comm, mul-right-comm, mul-pos}
 use native.Mathlib.Nat.{mul-le-mul-left, mul-le-mul-right, le-of-mul-le-mul-right, lt-div-mul-add, div-mul-le-self, div-lt-iff-lt-mul}
 use native.Mathlib.Omega.{arith}
 use lib.Dec.{T, ltb, leb, eqb, ltb→lt, leb→le, eqb→eq, lit≤, lit<}
-use lib.IntN.{ℤ, pos, negsuc}
+use lib.IntN.{ℤ, pos, negsuc, negℤ}
 use lib.Pow.{pow-pos, pow-add, pow-lt, shl-lt}
 use lib.Ieee.{Float, nan, inf, fin, binary32, up, down, below, level, odd, units, round, sum, sub, mul, div, le, lt, ofInt, fits}
 use lib.Ieee.Fits.{up-pos, down-pos, and-l, and-r, round-is, round-fits}
@@ -21,8 +21,8 @@ use lib.Ieee.Positive.{through, first-pos}
 use borrow.Author.Needs.{zero≤}
 use borrow.Author.Tests.{lt-ltb, ne-eqb, ltb-true, ltb-false, leb-true}
 use Rattle.numbers.specs.declared.Whole.the-variants.{Of, TooLarge}
-use Rattle.numbers.specs.Rounding.{limit, pickWhole, truncOf}
-use Rattle.numbers.proofs.Order.{le-test}
+use Rattle.numbers.specs.Rounding.{floorZ, limit, pickWhole, ceilOf, truncOf}
+use Rattle.numbers.proofs.Order.{le-test, le-not}
 use Rattle.numbers.proofs.Sign.{round-none}
 use Rattle.sizing.specs.Points.{bounded}
 
@@ -375,12 +375,12 @@ mul-none (fin false q g) r e v =
     ap (λ (n : ℕ). round binary32 true n (down g * down e)) (ap (λ (n : ℕ). q * up g * n) (zero-mul (up e)) ∙ mul-zero (q * up g))
     ∙ round-none true (down g * down e) (mul-pos (down-pos g) (down-pos e))
 
-div-none : (l : ℕ) (g : ℤ) → 0 < l → div binary32 (fin true 0 (pos 0)) (fin false l g) ≡ fin true 0 (pos 0)
+div-none : (e : ℤ) (l : ℕ) (g : ℤ) → 0 < l → div binary32 (fin true 0 e) (fin false l g) ≡ fin true 0 (pos 0)
 unfolding div
-div-none l g L =
-    ap (λ (t : Bool). cond t nan (round binary32 true (0 * down g) (l * up g * 1))) (ne-eqb l 0 (apart L))
-    ∙ ap (λ (n : ℕ). round binary32 true n (l * up g * 1)) (zero-mul (down g))
-    ∙ round-none true (l * up g * 1) (mul-pos (mul-pos L (up-pos g)) (pow-pos 0))
+div-none e l g L =
+    ap (λ (t : Bool). cond t nan (round binary32 true (0 * up e * down g) (l * up g * down e))) (ne-eqb l 0 (apart L))
+    ∙ ap (λ (n : ℕ). round binary32 true n (l * up g * down e)) (ap (λ (n : ℕ). n * down g) (zero-mul (up e)) ∙ zero-mul (down g))
+    ∙ round-none true (l * up g * down e) (mul-pos (mul-pos L (up-pos g)) (down-pos e))
 
 none-cut : (r : ℕ) → UpTo r (fin true 0 (pos 0))
 unfolding truncOf
@@ -390,7 +390,7 @@ none-ratio : (r : ℕ) (e : ℤ) (l : ℕ) (g : ℤ) → r ≤ 254 → 0 < l →
 unfolding ofInt
 none-ratio r e l g R L =
     subst (λ (x : Float). UpTo r (div binary32 x (fin false l g))) (sym (mul-none (round binary32 false r 1) r e (round-whole binary32 false r (le-trans R (lit≤ tt)))))
-    (subst (UpTo r) (sym (div-none l g L)) (none-cut r))
+    (subst (UpTo r) (sym (div-none (pos 0) l g L)) (none-cut r))
 
 -- of the two kinds of d that an extent has
 any-ratio : (r : ℕ) (s : Bool) (k : ℕ) (e : ℤ) (t : Bool) (l : ℕ) (g : ℤ) → r ≤ 254 → (s ≡ false) ⊎ (k ≡ 0) → (t ≡ false) × (0 < l)
@@ -411,3 +411,70 @@ whole-part r R d m D M h k =
     (any-ratio r (D .sign) (D .digits) (D .power) (M .sign) (M .digits) (M .power) R (D .plus)
     (not-none (M .sign) (M .digits) (M .power) (rw (M .is) at k))
     (rw (M .is) at (M .held)) (M .most) (rw (D .is, M .is) at h))
+
+-- ---- an extent over a cell size
+
+-- 2 ^ 31 is a value of the format
+exact-most : Exact (2 ^ 31) 1
+exact-most = round-exact binary32 false (2 ^ 31) 1 1 180 (pow-pos 0) (lit< tt) (lit< tt) refl
+
+-- the ceiling of a value that has no sign, and is under the limit, is a count
+count-up : (n d : ℕ) → (k : ℕ) × (negℤ (floorZ (negℤ (pos n)) d) ≡ pos k)
+count-up zero d = (0, ap (λ (k : ℕ). negℤ (pos k)) (zero-div d))
+count-up (suc n) d = (suc (n / d), refl)
+
+lifted : (x : Float) → Capped x (2 ^ 31) 1 → (n : ℕ) × (ceilOf x ≡ Of (pos n))
+unfolding ceilOf
+lifted x c = subst (λ (y : Float). (n : ℕ) × (ceilOf y ≡ Of (pos n))) (sym (c .is)) (at (c .digits * up (c .power)) (down (c .power)) (down-pos (c .power)) (c .most))
+  where
+    at : (n d : ℕ) → 0 < d → n * 1 ≤ 2 ^ 31 * d → (k : ℕ) × (pickWhole (ltb n (limit * d)) (Of (negℤ (floorZ (negℤ (pos n)) d))) TooLarge ≡ Of (pos k))
+    at n d D h =
+        let l : n < limit * d = omega arith in
+        let w = count-up n d in
+        (w .0, ap (λ (b : Bool). pickWhole b (Of (negℤ (floorZ (negℤ (pos n)) d))) TooLarge) (lt-ltb n (limit * d) l) ∙ ap Of (w .1))
+
+-- k * 2 ^ e, at most 2 ^ 21, over l * 2 ^ g, at least 2 ^ -10
+plain-size : (k : ℕ) (e : ℤ) (l : ℕ) (g : ℤ) → 0 < l → k * up e ≤ 2 ^ 21 * down e → down g ≤ l * up g * 2 ^ 10 → Capped (div binary32 (fin false k e) (fin false l g)) (2 ^ 31) 1
+unfolding div
+plain-size k e l g L h m = at (eqb l 0) (ne-eqb l 0 (apart L))
+  where
+    bound : (a b c d : ℕ) → a ≤ 2 ^ 21 * b → c ≤ d * 2 ^ 10 → a * c * 1 ≤ 2 ^ 31 * (d * b)
+    bound a b c d h m =
+        let p : a * c ≤ 2 ^ 21 * b * (d * 2 ^ 10) = le-trans (mul-le-mul-right c h) (mul-le-mul-left (2 ^ 21 * b) m) in
+        let q : 2 ^ 21 * b * (d * 2 ^ 10) ≡ 2 ^ 31 * (d * b) = simp (mul-assoc, mul-comm, mul-left-comm) in
+        le-trans (le-of-eq (mul-one (a * c))) (le-trans p (le-of-eq q))
+
+    at : (none : Bool) → none ≡ false → Capped (cond none (cond (eqb k 0) nan (inf false)) (round binary32 false (k * up e * down g) (l * up g * down e))) (2 ^ 31) 1
+    at true f = absurd (true≢false f)
+    at false f =
+        round-capped (k * up e * down g) (l * up g * down e) (2 ^ 31) 1 (mul-pos (mul-pos L (up-pos g)) (down-pos e)) (pow-pos 0)
+        (bound (k * up e) (down e) (down g) (l * up g) h m)
+        exact-most
+
+none-lifted : (n : ℕ) × (ceilOf (fin true 0 (pos 0)) ≡ Of (pos n))
+unfolding ceilOf
+none-lifted = (0, refl)
+
+-- d / size, rounded once, of a size from 2 ^ -10 to 2 ^ 20: its ceiling is a count, never too large and never a NaN's
+pub whole-quotient : (d size : Float) → Extent d → le (fin false 1 (negsuc 9)) size ≡ true → le size (fin false 1 (pos 20)) ≡ true
+    → (n : ℕ) × (ceilOf (div binary32 d size) ≡ Of (pos n))
+unfolding le
+whole-quotient d nan D p q = absurd (false≢true p)
+whole-quotient d (inf true) D p q = absurd (false≢true p)
+whole-quotient d (inf false) D p q = absurd (false≢true q)
+whole-quotient d (fin true l g) D p q = absurd (true≢false (not-none true l g (le-not (fin false 1 (negsuc 9)) (fin true l g) tt tt p) .0))
+whole-quotient d (fin false l g) D p q =
+    subst (λ (x : Float). (n : ℕ) × (ceilOf (div binary32 x (fin false l g)) ≡ Of (pos n))) (sym (D .is)) (at (D .sign) (D .digits) (D .power) (D .plus) (D .most))
+  where
+    some : 0 < l
+    some = not-none false l g (le-not (fin false 1 (negsuc 9)) (fin false l g) tt tt p) .1
+
+    least : down g ≤ l * up g * 2 ^ 10
+    least = le-trans (le-of-eq (sym (one-mul (down g)))) (in-order (1 * 1 * down g) (l * up g * 2 ^ 10) (subst T (sym p) tt))
+
+    at : (s : Bool) (k : ℕ) (e : ℤ) → (s ≡ false) ⊎ (k ≡ 0) → k * up e ≤ 2 ^ 21 * down e → (n : ℕ) × (ceilOf (div binary32 (fin s k e) (fin false l g)) ≡ Of (pos n))
+    at false k e c h = lifted (div binary32 (fin false k e) (fin false l g)) (plain-size k e l g some h least)
+    at true k e (inl f) h = absurd (true≢false f)
+    at true k e (inr z) h =
+        subst (λ (i : ℕ). (n : ℕ) × (ceilOf (div binary32 (fin true i e) (fin false l g)) ≡ Of (pos n))) (sym z)
+        (subst (λ (x : Float). (n : ℕ) × (ceilOf x ≡ Of (pos n))) (sym (div-none e l g some)) none-lifted)

@@ -113,7 +113,7 @@ sizeFault size = faultIf (not (le leastSize size && le size greatestSize)) 5 0 F
 abbrev pub larger : ℕ → ℕ → ℕ
 larger a b = cond (leb a b) b a
 
--- a rounded quotient as a count: 0 for a whole number below 0, as the crate's cast has it. One that is too large, or none, is more than any axis has
+-- a rounded quotient as a count. After the checks it is a whole number not below 0 (`size-counts`, `resolution-counts` in proofs/Ranges.antt); for the rest, one below 0 is 0, as the crate's cast has it, and one that is too large, or none, is more than any axis has
 unfoldable pub natural : Whole → ℕ
 natural (Of (pos n)) = n
 natural (Of (negsuc n)) = 0

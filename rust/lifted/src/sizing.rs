@@ -1,5 +1,6 @@
 // From parry3d 0.30.2, src/transformation/voxelization/voxelized_volume.rs, `with_voxel_size` and
-// `voxelize` up to the call of `do_voxelize`. Lines that differ end with `// touched`.
+// `voxelize` up to the call of `do_voxelize`. Changed lines end with `// touched`. Left out: the doc comments,
+// the `cfg` attributes and the 2D arms under them, and the fields `values`, `data` and `primitive_intersections`.
 //
 // Rust port, with modifications, of https://github.com/kmammou/v-hacd/blob/master/src/VHACD_Lib/src/vhacdVolume.cpp
 // By Khaled Mamou

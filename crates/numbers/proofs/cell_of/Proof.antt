@@ -32,7 +32,7 @@ same c = search needs
 small : (c : tie.Start) → mag (shrZ (q c) half) < 2 ^ 62
 small c =
     let f : SFits w64 (q c) = subst (SFits w64) (sym (same c)) (search needs) in
-    lt-of-lt-of-le (shr-under (q c) half (2 ^ 56) (lit< tt) (f .sfits)) (lit≤ tt)
+    shr-under (q c) half (2 ^ 62) (lit< tt) (lt-of-lt-of-le (f .sfits) (lit≤ tt))
 
 add-result : tie.Need-add-result
 add-result c = more-fits (shrZ (q c) half) (small c)
