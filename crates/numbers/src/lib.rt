@@ -7,6 +7,11 @@ ghost use Rattle.numbers.specs.Rounding.{signed, floorZ, floorTimes, cei
 // A cell's side has 2 ^ SPLITS parts.
 const SPLITS: u32 = 8;
 
+// A cell's side in parts, and half of it.
+pub const SIDE: i64 = 1 << SPLITS;
+
+pub const HALF: i64 = 1 << (SPLITS - 1);
+
 pub enum Whole {
     Of(i64),
     // 2 ^ 40 or more in magnitude, an infinity too

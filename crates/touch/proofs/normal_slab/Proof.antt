@@ -1,0 +1,58 @@
+-- `touch::normal_slab` meets its contract. Assumes nothing.
+use Rattle.ints.specs.Bound.{each-eq}
+use Rattle.touch.proofs.Laws.{edge-in, cross-in}
+use borrow.Author.Needs.{needs}
+use Rattle.touch.proofs.normal_slab.Statement.{statement}
+use Rattle.touch.proofs.normal_slab.Tie as tie
+use Rattle.touch.proofs.normal_slab.Reads as reads
+use Rattle.touch.proofs.normal_slab.Lts as lts
+use Rattle.touch.proofs.cross_of.Reads as cross-of-reads
+use Rattle.touch.proofs.edge_of.Reads as edge-of-reads
+use Rattle.touch.proofs.slab_along.Reads as slab-along-reads
+
+array-copy-out-edge-of : tie.Need-array-copy-out-edge-of
+array-copy-out-edge-of c = search needs
+
+array-copy-out-edge-of-2 : tie.Need-array-copy-out-edge-of-2
+array-copy-out-edge-of-2 c = search needs
+
+edge-of-requires : tie.Need-edge-of-requires
+edge-of-requires c κs = (c .before .before .pre .at 0, c .before .before .pre .at 1)
+
+array-copy-out-edge-of-3 : tie.Need-array-copy-out-edge-of-3
+array-copy-out-edge-of-3 c = search needs
+
+array-copy-out-edge-of-4 : tie.Need-array-copy-out-edge-of-4
+array-copy-out-edge-of-4 c = search needs
+
+edge-of-requires-2 : tie.Need-edge-of-requires-2
+edge-of-requires-2 c κs = (c .before .before .before .before .before .pre .at 1, c .before .before .before .before .before .pre .at 2)
+
+cross-of-requires : tie.Need-cross-of-requires
+cross-of-requires c κs =
+    let p = c .before .before .before .before .before .before .pre in
+    (each-eq (c .before .before .before .edge-of .ensures) (edge-in (p .at 0) (p .at 1)), each-eq (c .edge-of2 .ensures) (edge-in (p .at 1) (p .at 2)))
+
+slab-along-requires : tie.Need-slab-along-requires
+slab-along-requires c κs =
+    let p = c .before .before .before .before .before .before .before .pre in
+    let e = each-eq (c .before .before .before .before .edge-of .ensures) (edge-in (p .at 0) (p .at 1)) in
+    let f = each-eq (c .before .edge-of2 .ensures) (edge-in (p .at 1) (p .at 2)) in
+    (each-eq (c .cross-of .ensures) (cross-in e f), p)
+
+returns : tie.Need-returns
+returns c = cc
+
+pub normal-slab-spec : {M : Type 1} → statement M
+normal-slab-spec =
+    tie.close
+    (tie.spec
+    array-copy-out-edge-of
+    array-copy-out-edge-of-2
+    edge-of-requires
+    array-copy-out-edge-of-3
+    array-copy-out-edge-of-4
+    edge-of-requires-2
+    cross-of-requires
+    slab-along-requires
+    returns)

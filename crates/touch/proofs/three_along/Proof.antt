@@ -1,0 +1,27 @@
+-- `touch::three_along` meets its contract. Assumes nothing.
+use borrow.Author.Needs.{needs}
+use Rattle.touch.proofs.three_along.Statement.{statement}
+use Rattle.touch.proofs.three_along.Tie as tie
+use Rattle.touch.proofs.three_along.Reads as reads
+use Rattle.touch.proofs.three_along.Lts as lts
+use Rattle.touch.proofs.slab_along.Reads as slab-along-reads
+
+slab-along-requires : tie.Need-slab-along-requires
+slab-along-requires c κs = search needs
+
+slab-along-requires-2 : tie.Need-slab-along-requires-2
+slab-along-requires-2 c κs = search needs
+
+slab-along-requires-3 : tie.Need-slab-along-requires-3
+slab-along-requires-3 c κs = search needs
+
+returns : tie.Need-returns
+returns c =
+    let x = c .before .before .slab-along .ensures in
+    let y = c .before .slab-along2 .ensures in
+    let z = c .slab-along3 .ensures in
+    λ t. record { x = x t; y = y t; z = z t }
+
+pub three-along-spec : {M : Type 1} → statement M
+three-along-spec =
+    tie.close (tie.spec slab-along-requires slab-along-requires-2 slab-along-requires-3 returns)

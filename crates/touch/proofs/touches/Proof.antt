@@ -1,0 +1,24 @@
+-- `touch::touches` meets its contract: what the thirteen slabs leave is what the triangle touches. Assumes nothing.
+use mathlib.Core.Path.{_≡_, sym, ap, subst, _∙_}
+use Rattle.touch.specs.declared.Slabs.{Slabs}
+use Rattle.touch.specs.Slabs.{keptAll, Mild}
+use Rattle.touch.proofs.Laws.{slabs-mild, slabs-touch}
+use borrow.Author.Needs.{needs}
+use Rattle.touch.proofs.touches.Statement.{statement}
+use Rattle.touch.proofs.touches.Tie as tie
+use Rattle.touch.proofs.touches.Reads as reads
+use Rattle.touch.proofs.touches.Lts as lts
+use Rattle.touch.proofs.slabs_of.Reads as slabs-of-reads
+use Rattle.touch.proofs.within.Reads as within-reads
+
+slabs-of-requires : tie.Need-slabs-of-requires
+slabs-of-requires c κs = search needs
+
+within-requires : tie.Need-within-requires
+within-requires c κs = (subst Mild (sym (c .slabs-of .ensures)) (slabs-mild (c .before .args .t) (c .before .pre .0)), c .before .pre .1)
+
+returns : tie.Need-returns
+returns c = c .within .ensures ∙ ap (λ (s : Slabs). keptAll s (c .before .before .args .c)) (c .before .slabs-of .ensures) ∙ slabs-touch (c .before .before .args .t) (c .before .before .args .c)
+
+pub touches-spec : {M : Type 1} → statement M
+touches-spec = tie.close (tie.spec slabs-of-requires within-requires returns)

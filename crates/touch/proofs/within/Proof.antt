@@ -1,0 +1,64 @@
+-- `touch::within` meets its contract. Assumes nothing.
+use mathlib.Core.Bool.{_&&_}
+use mathlib.Core.Path.{_≡_, sym, ap, _∙_}
+use Rattle.touch.specs.Slabs.{keptAll, keptAt}
+use Rattle.touch.proofs.Laws.{signed, near-beside}
+use borrow.Author.Needs.{needs}
+use Rattle.touch.proofs.within.Statement.{statement}
+use Rattle.touch.proofs.within.Tie as tie
+use Rattle.touch.proofs.within.Reads as reads
+use Rattle.touch.proofs.within.Lts as lts
+use Rattle.touch.proofs.keeps.Reads as keeps-reads
+use Rattle.touch.proofs.keeps_three.Reads as keeps-three-reads
+
+cast-i : tie.Need-cast-i
+cast-i c = search needs
+
+cast-j : tie.Need-cast-j
+cast-j c = search needs
+
+cast-k : tie.Need-cast-k
+cast-k c = search needs
+
+keeps-three-requires : tie.Need-keeps-three-requires
+keeps-three-requires c κs = (c .before .before .before .pre .0 .axes-ok, near-beside (c .before .before .before .args .c) (c .before .before .before .pre .1))
+
+keeps-requires : tie.Need-keeps-requires
+keeps-requires c κs = (c .before .before .before .before .pre .0 .normal-ok, near-beside (c .before .before .before .before .args .c) (c .before .before .before .before .pre .1))
+
+keeps-three-requires-2 : tie.Need-keeps-three-requires-2
+keeps-three-requires-2 c κs = (c .before .before .before .before .before .pre .0 .edge01-ok, near-beside (c .before .before .before .before .before .args .c) (c .before .before .before .before .before .pre .1))
+
+keeps-three-requires-3 : tie.Need-keeps-three-requires-3
+keeps-three-requires-3 c κs = (c .before .before .before .before .before .before .pre .0 .edge12-ok, near-beside (c .before .before .before .before .before .before .args .c) (c .before .before .before .before .before .before .pre .1))
+
+keeps-three-requires-4 : tie.Need-keeps-three-requires-4
+keeps-three-requires-4 c κs = (c .before .before .before .before .before .before .before .pre .0 .edge20-ok, near-beside (c .before .before .before .before .before .before .before .args .c) (c .before .before .before .before .before .before .before .pre .1))
+
+returns : tie.Need-returns
+unfolding keptAll
+returns c =
+    let p = c .before .before .before .before .keeps-three .ensures in
+    let q = c .before .before .before .keeps .ensures in
+    let u = c .before .before .keeps-three2 .ensures in
+    let v = c .before .keeps-three3 .ensures in
+    let w = c .keeps-three4 .ensures in
+    let near = c .before .before .before .before .before .before .before .before .pre .1 in
+    let i = signed (near .i-near) in
+    let j = signed (near .j-near) in
+    let k = signed (near .k-near) in
+    (λ t. p t && q t && u t && v t && w t) ∙ (λ t. keptAt (c .before .before .before .before .before .before .before .before .args .s) (i t) (j t) (k t))
+
+pub within-spec : {M : Type 1} → statement M
+within-spec =
+    tie.close
+    (tie.spec
+    cast-i
+    cast-j
+    cast-k
+    keeps-three-requires
+    keeps-requires
+    keeps-three-requires-2
+    keeps-three-requires-3
+    keeps-three-requires-4
+    returns)

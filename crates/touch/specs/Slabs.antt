@@ -1,0 +1,99 @@
+-- What the test of specs/Touch.antt comes to when that of a triangle is computed once: for each direction the cells that it leaves. proofs/Slabs.antt shows the two equal. Then the ranges. Definitions only.
+use mathlib.Core.Bool.{Bool, cond, _&&_}
+use mathlib.Core.List.{List, [], _∷_}
+use Prim.Native.Nat.{ℕ, _<_}
+use lib.IntN.{ℤ, pos, _+ℤ_, _-ℤ_, _*ℤ_}
+use lib.Signed.{ltZ, leZ}
+use Rattle.grid.specs.declared.Cell.{Cell}
+use Rattle.numbers.specs.Rounding.{parts}
+use Rattle.ints.specs.Bound.{In, Each, Every}
+use Rattle.ints.specs.Order.{lesser, greater}
+use Rattle.touch.specs.declared.Slab.{Slab}
+use Rattle.touch.specs.declared.Three.{Three}
+use Rattle.touch.specs.declared.Slabs.{Slabs}
+use Rattle.touch.specs.Touch.{along, vertex, dotZ, reach, edge, cross, axisX, axisY, axisZ, normal, edgeOf}
+
+-- of a direction d: from the least projection less the reach to the greatest and the reach
+unfoldable pub slabOf : List ℤ → List (List ℤ) → Slab
+slabOf d t =
+    record {
+      x = pos parts *ℤ along d 0;
+      y = pos parts *ℤ along d 1;
+      z = pos parts *ℤ along d 2;
+      low = lesser (lesser (dotZ d (vertex t 0)) (dotZ d (vertex t 1))) (dotZ d (vertex t 2)) -ℤ reach d;
+      high = greater (greater (dotZ d (vertex t 0)) (dotZ d (vertex t 1))) (dotZ d (vertex t 2)) +ℤ reach d;
+    }
+
+abbrev pub threeOf : List ℤ → List ℤ → List ℤ → List (List ℤ) → Three
+threeOf x y z t = record { x = slabOf x t; y = slabOf y t; z = slabOf z t }
+
+-- of the products of an edge with the axes
+abbrev pub productsOf : List ℤ → List (List ℤ) → Three
+productsOf e t = threeOf (cross e axisX) (cross e axisY) (cross e axisZ) t
+
+abbrev pub slabsOf : List (List ℤ) → Slabs
+slabsOf t =
+    record {
+      axes = threeOf axisX axisY axisZ t;
+      normal = slabOf (normal t) t;
+      edge01 = productsOf (edgeOf t 0 1) t;
+      edge12 = productsOf (edgeOf t 1 2) t;
+      edge20 = productsOf (edgeOf t 2 0) t;
+    }
+
+-- a cell is left
+abbrev pub kept : Slab → ℤ → ℤ → ℤ → Bool
+kept s i j k = leZ (s .low) (s .x *ℤ i +ℤ s .y *ℤ j +ℤ s .z *ℤ k) && leZ (s .x *ℤ i +ℤ s .y *ℤ j +ℤ s .z *ℤ k) (s .high)
+
+abbrev pub keptThree : Three → ℤ → ℤ → ℤ → Bool
+keptThree s i j k = kept (s .x) i j k && kept (s .y) i j k && kept (s .z) i j k
+
+abbrev pub keptAt : Slabs → ℤ → ℤ → ℤ → Bool
+keptAt s i j k =
+    keptThree (s .axes) i j k && kept (s .normal) i j k && keptThree (s .edge01) i j k && keptThree (s .edge12) i j k && keptThree (s .edge20) i j k
+
+unfoldable pub keptAll : Slabs → Cell → Bool
+keptAll s c = keptAt s (pos (c .i)) (pos (c .j)) (pos (c .k))
+
+-- ---- the ranges, which hold for up to 1,024 parts of a side: of a vertex's coordinate 2 ^ 18, of an edge's 2 ^ 19, of a direction's 2 ^ 39, of a direction's times the side 2 ^ 49, of a slab's ends 2 ^ 59, of a cell's 255
+
+abbrev pub Corner : List ℤ → Type 0
+Corner v = Each 262144 v
+
+abbrev pub Corners : List (List ℤ) → Type 0
+Corners t = Every 262144 t
+
+abbrev pub Far : List ℤ → Type 0
+Far v = Each 524288 v
+
+abbrev pub Dir : List ℤ → Type 0
+Dir d = Each 549755813888 d
+
+pub record Gentle (s : Slab) : Type 0 where
+  pub x-in : In 562949953421312 (s .x)
+  pub y-in : In 562949953421312 (s .y)
+  pub z-in : In 562949953421312 (s .z)
+  pub low-in : In 576460752303423488 (s .low)
+  pub high-in : In 576460752303423488 (s .high)
+
+pub record Gentles (s : Three) : Type 0 where
+  pub x-ok : Gentle (s .x)
+  pub y-ok : Gentle (s .y)
+  pub z-ok : Gentle (s .z)
+
+pub record Mild (s : Slabs) : Type 0 where
+  pub axes-ok : Gentles (s .axes)
+  pub normal-ok : Gentle (s .normal)
+  pub edge01-ok : Gentles (s .edge01)
+  pub edge12-ok : Gentles (s .edge12)
+  pub edge20-ok : Gentles (s .edge20)
+
+pub record Beside (i j k : ℤ) : Type 0 where
+  pub i-in : In 255 i
+  pub j-in : In 255 j
+  pub k-in : In 255 k
+
+pub record Near (c : Cell) : Type 0 where
+  pub i-near : c .i < 256
+  pub j-near : c .j < 256
+  pub k-near : c .k < 256
