@@ -12,7 +12,7 @@ use mir.Syntax.{w64}
 use mir.Val.{toZ, ofZ}
 use Rattle.grid.specs.declared.Cell.{Cell}
 use Rattle.numbers.specs.Rounding.{parts, half}
-use Rattle.ints.specs.Bound.{In, Val, Each, got, in-add, in-sub, in-mul, in-abs, in-lit, in-up, in-eq, in3, every3, cons3}
+use Rattle.ints.specs.Bound.{In, Val, Each, arg, got, v-in, in-add, in-sub, in-mul, in-abs, in-lit, in-up, in-eq, in3, every3, cons3}
 use Rattle.ints.specs.Casts.{of-unsigned}
 use Rattle.ints.specs.Order.{lesser, greater, le-not, lt-lesser, lt-greater, lt-less, lt-more}
 use Rattle.ints.specs.Ring.{ap3, mul-assoc}
@@ -101,6 +101,10 @@ near-beside c h = record { i-in = few (h .i-near); j-in = few (h .j-near); k-in 
   where
     few : {n : ℕ} → n < 256 → In 255 (toZ w64 n)
     few h = in-eq (signed h) (record { bound = omega arith })
+
+-- the same when they are handed on
+pub handed : {i j k : ℤ} → Beside i j k → Beside (toZ w64 (ofZ w64 i)) (toZ w64 (ofZ w64 j)) (toZ w64 (ofZ w64 k))
+handed h = record { i-in = v-in (arg tt (h .i-in)); j-in = v-in (arg tt (h .j-in)); k-in = v-in (arg tt (h .k-in)) }
 
 -- ---- the products of an edge with the axes
 

@@ -3,6 +3,7 @@ use mathlib.Core.Bool.{_&&_}
 use mathlib.Core.Path.{_∙_}
 use Rattle.ints.specs.Casts.{known}
 use Rattle.touch.specs.Slabs.{keptThree}
+use Rattle.touch.proofs.Laws.{handed}
 use borrow.Author.Needs.{needs}
 use Rattle.touch.proofs.keeps_three.Statement.{statement}
 use Rattle.touch.proofs.keeps_three.Tie as tie
@@ -11,13 +12,13 @@ use Rattle.touch.proofs.keeps_three.Lts as lts
 use Rattle.touch.proofs.keeps.Reads as keeps-reads
 
 keeps-requires : tie.Need-keeps-requires
-keeps-requires c κs = search needs
+keeps-requires c κs = (c .pre .0 .x-ok, handed (c .pre .1))
 
 keeps-requires-2 : tie.Need-keeps-requires-2
-keeps-requires-2 c κs = search needs
+keeps-requires-2 c κs = (c .before .pre .0 .y-ok, handed (c .before .pre .1))
 
 keeps-requires-3 : tie.Need-keeps-requires-3
-keeps-requires-3 c κs = search needs
+keeps-requires-3 c κs = (c .before .before .pre .0 .z-ok, handed (c .before .before .pre .1))
 
 returns : tie.Need-returns
 returns c =

@@ -1,4 +1,5 @@
 -- `touch::normal_slab` meets its contract. Assumes nothing.
+use lib.Dec.{lit<}
 use Rattle.ints.specs.Bound.{each-eq}
 use Rattle.touch.proofs.Laws.{edge-in, cross-in}
 use borrow.Author.Needs.{needs}
@@ -11,19 +12,19 @@ use Rattle.touch.proofs.edge_of.Reads as edge-of-reads
 use Rattle.touch.proofs.slab_along.Reads as slab-along-reads
 
 array-copy-out-edge-of : tie.Need-array-copy-out-edge-of
-array-copy-out-edge-of c = search needs
+array-copy-out-edge-of c = lit< tt
 
 array-copy-out-edge-of-2 : tie.Need-array-copy-out-edge-of-2
-array-copy-out-edge-of-2 c = search needs
+array-copy-out-edge-of-2 c = lit< tt
 
 edge-of-requires : tie.Need-edge-of-requires
 edge-of-requires c κs = (c .before .before .pre .at 0, c .before .before .pre .at 1)
 
 array-copy-out-edge-of-3 : tie.Need-array-copy-out-edge-of-3
-array-copy-out-edge-of-3 c = search needs
+array-copy-out-edge-of-3 c = lit< tt
 
 array-copy-out-edge-of-4 : tie.Need-array-copy-out-edge-of-4
-array-copy-out-edge-of-4 c = search needs
+array-copy-out-edge-of-4 c = lit< tt
 
 edge-of-requires-2 : tie.Need-edge-of-requires-2
 edge-of-requires-2 c κs = (c .before .before .before .before .before .pre .at 1, c .before .before .before .before .before .pre .at 2)

@@ -1,4 +1,5 @@
 -- `touch::products` meets its contract: the products of an edge with the axes, written out. Assumes nothing.
+use lib.Dec.{lit<}
 use mathlib.Core.Path.{_≡_, refl, sym, ap, _∙_}
 use mathlib.Core.List.{List}
 use lib.IntN.{ℤ, pos}
@@ -14,16 +15,16 @@ use Rattle.touch.proofs.edge_of.Reads as edge-of-reads
 use Rattle.touch.proofs.three_along.Reads as three-along-reads
 
 edge-of-requires : tie.Need-edge-of-requires
-edge-of-requires c κs = search needs
+edge-of-requires c κs = c .pre .0
 
 array-copy-out-x : tie.Need-array-copy-out-x
-array-copy-out-x c = search needs
+array-copy-out-x c = lit< tt
 
 array-copy-out-y : tie.Need-array-copy-out-y
-array-copy-out-y c = search needs
+array-copy-out-y c = lit< tt
 
 array-copy-out-z : tie.Need-array-copy-out-z
-array-copy-out-z c = search needs
+array-copy-out-z c = lit< tt
 
 sub-t11 : tie.Need-sub-t11
 sub-t11 c =

@@ -1,4 +1,5 @@
 -- `touch::slab_along` meets its contract. Assumes nothing.
+use lib.Dec.{lit<}
 use lib.IntN.{pos}
 use Rattle.numbers.specs.Rounding.{parts}
 use Rattle.ints.specs.Bound.{arg, got, lit, times, plus, minus, v-mul, v-add, v-sub, fits}
@@ -15,49 +16,49 @@ use Rattle.touch.proofs.least.Reads as least-reads
 use Rattle.touch.proofs.span.Reads as span-reads
 
 array-copy-out-dot : tie.Need-array-copy-out-dot
-array-copy-out-dot c = search needs
+array-copy-out-dot c = lit< tt
 
 dot-requires : tie.Need-dot-requires
 dot-requires c κs = (c .before .pre .0, c .before .pre .1 .at 0)
 
 array-copy-out-dot-2 : tie.Need-array-copy-out-dot-2
-array-copy-out-dot-2 c = search needs
+array-copy-out-dot-2 c = lit< tt
 
 dot-requires-2 : tie.Need-dot-requires-2
 dot-requires-2 c κs = (c .before .before .before .pre .0, c .before .before .before .pre .1 .at 1)
 
 array-copy-out-dot-3 : tie.Need-array-copy-out-dot-3
-array-copy-out-dot-3 c = search needs
+array-copy-out-dot-3 c = lit< tt
 
 dot-requires-3 : tie.Need-dot-requires-3
 dot-requires-3 c κs = (c .before .before .before .before .before .pre .0, c .before .before .before .before .before .pre .1 .at 2)
 
 span-requires : tie.Need-span-requires
-span-requires c κs = search needs
+span-requires c κs = c .before .before .before .before .before .before .pre .0
 
 array-copy-out-t19 : tie.Need-array-copy-out-t19
-array-copy-out-t19 c = search needs
+array-copy-out-t19 c = lit< tt
 
 mul-t20 : tie.Need-mul-t20
 mul-t20 c = fits tt (v-mul (lit (pos parts)) (arg tt (c .before .before .before .before .before .before .before .before .pre .0 .at 0)))
 
 array-copy-out-t23 : tie.Need-array-copy-out-t23
-array-copy-out-t23 c = search needs
+array-copy-out-t23 c = lit< tt
 
 mul-t24 : tie.Need-mul-t24
 mul-t24 c = fits tt (v-mul (lit (pos parts)) (arg tt (c .before .before .before .before .before .before .before .before .before .pre .0 .at 1)))
 
 array-copy-out-t27 : tie.Need-array-copy-out-t27
-array-copy-out-t27 c = search needs
+array-copy-out-t27 c = lit< tt
 
 mul-t28 : tie.Need-mul-t28
 mul-t28 c = fits tt (v-mul (lit (pos parts)) (arg tt (c .before .before .before .before .before .before .before .before .before .before .pre .0 .at 2)))
 
 least-requires : tie.Need-least-requires
-least-requires c κs = search needs
+least-requires c κs = tt
 
 least-requires-2 : tie.Need-least-requires-2
-least-requires-2 c κs = search needs
+least-requires-2 c κs = tt
 
 sub-t31 : tie.Need-sub-t31
 sub-t31 c =
@@ -69,10 +70,10 @@ sub-t31 c =
     fits tt (v-sub (v-lesser tt (c .least2 .ensures) (v-lesser tt (c .before .least .ensures) a b) d) r)
 
 greatest-requires : tie.Need-greatest-requires
-greatest-requires c κs = search needs
+greatest-requires c κs = tt
 
 greatest-requires-2 : tie.Need-greatest-requires-2
-greatest-requires-2 c κs = search needs
+greatest-requires-2 c κs = tt
 
 add-t34 : tie.Need-add-t34
 add-t34 c =

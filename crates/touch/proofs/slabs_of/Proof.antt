@@ -1,4 +1,5 @@
 -- `touch::slabs_of` meets its contract. Assumes nothing.
+use lib.Dec.{lit<}
 use Rattle.touch.proofs.Laws.{axis-dir}
 use borrow.Author.Needs.{needs}
 use Rattle.touch.proofs.slabs_of.Statement.{statement}
@@ -13,31 +14,31 @@ three-along-requires : tie.Need-three-along-requires
 three-along-requires c κs = ((axis-dir 1 0 0 tt tt tt, axis-dir 0 1 0 tt tt tt, axis-dir 0 0 1 tt tt tt), c .pre)
 
 normal-slab-requires : tie.Need-normal-slab-requires
-normal-slab-requires c κs = search needs
+normal-slab-requires c κs = c .before .pre
 
 array-copy-out-products : tie.Need-array-copy-out-products
-array-copy-out-products c = search needs
+array-copy-out-products c = lit< tt
 
 array-copy-out-products-2 : tie.Need-array-copy-out-products-2
-array-copy-out-products-2 c = search needs
+array-copy-out-products-2 c = lit< tt
 
 products-requires : tie.Need-products-requires
 products-requires c κs = ((c .before .before .before .before .pre .at 0, c .before .before .before .before .pre .at 1), c .before .before .before .before .pre)
 
 array-copy-out-products-3 : tie.Need-array-copy-out-products-3
-array-copy-out-products-3 c = search needs
+array-copy-out-products-3 c = lit< tt
 
 array-copy-out-products-4 : tie.Need-array-copy-out-products-4
-array-copy-out-products-4 c = search needs
+array-copy-out-products-4 c = lit< tt
 
 products-requires-2 : tie.Need-products-requires-2
 products-requires-2 c κs = ((c .before .before .before .before .before .before .before .pre .at 1, c .before .before .before .before .before .before .before .pre .at 2), c .before .before .before .before .before .before .before .pre)
 
 array-copy-out-products-5 : tie.Need-array-copy-out-products-5
-array-copy-out-products-5 c = search needs
+array-copy-out-products-5 c = lit< tt
 
 array-copy-out-products-6 : tie.Need-array-copy-out-products-6
-array-copy-out-products-6 c = search needs
+array-copy-out-products-6 c = lit< tt
 
 products-requires-3 : tie.Need-products-requires-3
 products-requires-3 c κs = ((c .before .before .before .before .before .before .before .before .before .before .pre .at 2, c .before .before .before .before .before .before .before .before .before .before .pre .at 0), c .before .before .before .before .before .before .before .before .before .before .pre)

@@ -7,13 +7,13 @@ use Rattle.touch.proofs.three_along.Lts as lts
 use Rattle.touch.proofs.slab_along.Reads as slab-along-reads
 
 slab-along-requires : tie.Need-slab-along-requires
-slab-along-requires c κs = search needs
+slab-along-requires c κs = (c .pre .0 .0, c .pre .1)
 
 slab-along-requires-2 : tie.Need-slab-along-requires-2
-slab-along-requires-2 c κs = search needs
+slab-along-requires-2 c κs = (c .before .pre .0 .1, c .before .pre .1)
 
 slab-along-requires-3 : tie.Need-slab-along-requires-3
-slab-along-requires-3 c κs = search needs
+slab-along-requires-3 c κs = (c .before .before .pre .0 .2, c .before .before .pre .1)
 
 returns : tie.Need-returns
 returns c =

@@ -12,7 +12,7 @@ use Rattle.touch.proofs.slabs_of.Reads as slabs-of-reads
 use Rattle.touch.proofs.within.Reads as within-reads
 
 slabs-of-requires : tie.Need-slabs-of-requires
-slabs-of-requires c κs = search needs
+slabs-of-requires c κs = c .pre .0
 
 within-requires : tie.Need-within-requires
 within-requires c κs = (subst Mild (sym (c .slabs-of .ensures)) (slabs-mild (c .before .args .t) (c .before .pre .0)), c .before .pre .1)
