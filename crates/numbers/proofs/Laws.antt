@@ -22,7 +22,7 @@ use borrow.Author.Tests.{lt-ltb, le-ltb, ne-eqb, ltb-true, ltb-false}
 use Rattle.ints.specs.Order.{same-test}
 use Rattle.numbers.specs.declared.Whole.{Whole}
 use Rattle.numbers.specs.declared.Whole.the-variants.{Of, TooLarge, NotANumber}
-use Rattle.numbers.specs.Rounding.{signed, floorZ, limit, pickWhole, within, floorTimes, ceilOf, truncOf, nearestOf}
+use Rattle.numbers.specs.Rounding.{signed, floorZ, limit, pickWhole, within, floorTimes, ceilOf, truncOf, nearestOf, parts, half, cellOf}
 
 -- ---- equal fractions have the same floor
 
@@ -371,6 +371,9 @@ module _ (z : ℤ) (h : mag z < 2 ^ 62) where
       ap (λ (y : ℤ). toZ w64 (ofZ w64 (shrZ y 2))) (toZ-ofZ w64 (toZ w64 (ofZ w64 z) +ℤ pos 1) more-fits ∙ more-is)
       ∙ toZ-ofZ w64 (halved z) (sfits-le {z = z +ℤ pos 1} (mag-shr (z +ℤ pos 1) 2) (sfits-of mag-more))
 
+  pub halved-fits : SFits w64 (halved z)
+  halved-fits = sfits-le {z = z +ℤ pos 1} (mag-shr (z +ℤ pos 1) 2) (sfits-of mag-more)
+
 -- ---- the truncation
 
 pub trunc-negative : (x : Float) → lt x (ofBits binary32 0) ≡ true → ceilOf x ≡ truncOf x
@@ -399,3 +402,22 @@ trunc-positive (fin true m e) h =
 pub shr-under : (z : ℤ) (d P : ℕ) → 0 < d → mag z < P * d → mag (shrZ z d) < P
 shr-under (pos a) d P D h = div-lt-iff-lt-mul D .1 h
 shr-under (negsuc a) d P D h = div-lt-iff-lt-mul D .1 h
+
+-- ---- what a caller reads back: a coordinate and its cell fit
+
+abbrev pub Fitting : Whole → Type 0
+Fitting (Of z) = SFits w64 z
+Fitting TooLarge = Unit
+Fitting NotANumber = Unit
+
+pub nearest-fits : (x : Float) → Fitting (nearestOf parts x)
+nearest-fits x = subst Fitting (sym (nearest-is parts x)) (go (floorTimes (2 * parts) x) (floor-under (2 * parts) x (lit< tt)))
+  where
+    go : (w : Whole) → Under (2 * parts * limit) w → Fitting (mapWhole halved w)
+    go (Of z) h = halved-fits z (lt-of-lt-of-le h (lit≤ tt))
+    go TooLarge h = tt
+    go NotANumber h = tt
+
+pub cell-fits : (q : ℤ) → SFits w64 q → SFits w64 (cellOf q)
+cell-fits q f =
+    subst (SFits w64) (sym (half-of-floor q half (lit< tt))) (halved-fits (shrZ q half) (shr-under q half (2 ^ 62) (lit< tt) (lt-of-lt-of-le (f .sfits) (lit≤ tt))))

@@ -39,11 +39,11 @@ pub record Extent (d : Float) : Type 0 where
 -- ---- a rounded fraction, and a value that it does not pass
 
 -- x is finite, has no sign, and is at most b / d
-record Capped (x : Float) (b d : ℕ) : Type 0 where
-  digits : ℕ
-  power : ℤ
-  is : x ≡ fin false digits power
-  most : digits * up power * d ≤ b * down power
+pub record Capped (x : Float) (b d : ℕ) : Type 0 where
+  pub digits : ℕ
+  pub power : ℤ
+  pub is : x ≡ fin false digits power
+  pub most : digits * up power * d ≤ b * down power
 
 -- what `le` tests of two numbers with no sign
 in-order : (a b : ℕ) → T (ltb a b || (eqb a b && true)) → a ≤ b
@@ -90,11 +90,11 @@ capped-by (fin false m e) (fin false n g) b d p v h = record {
 }
 
 -- b / d is a value of the format: rounding changes nothing
-abbrev Exact : ℕ → ℕ → Type 0
+abbrev pub Exact : ℕ → ℕ → Type 0
 Exact b d = HasValue (round binary32 false b d) false b d
 
 -- a / c is at most b / d, a value of the format: so is a / c rounded
-round-capped : (a c b d : ℕ) → 0 < c → 0 < d → a * d ≤ b * c → Exact b d → Capped (round binary32 false a c) b d
+pub round-capped : (a c b d : ℕ) → 0 < c → 0 < d → a * d ≤ b * c → Exact b d → Capped (round binary32 false a c) b d
 round-capped a c b d C D h v = capped-by (round binary32 false a c) (round binary32 false b d) b d (plain-round a c) v (round-mono binary32 a c b d C D h)
 
 -- ---- the difference

@@ -60,13 +60,13 @@ fn span(d: [i64; 3]) -> i64
     numbers::HALF * (abs(d[0]) + abs(d[1]) + abs(d[2]))
 }
 
-fn least(a: i64, b: i64) -> i64
+pub fn least(a: i64, b: i64) -> i64
     ensures { λ r. ⌜ r ≡ lesser a b ⌝ }
 {
     if b < a { b } else { a }
 }
 
-fn greatest(a: i64, b: i64) -> i64
+pub fn greatest(a: i64, b: i64) -> i64
     ensures { λ r. ⌜ r ≡ greater a b ⌝ }
 {
     if a < b { b } else { a }

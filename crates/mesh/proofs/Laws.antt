@@ -1,0 +1,217 @@
+-- Laws of the specs of `mesh`: what a vertex that falls on a cell is, what the checks say of a mesh, and a block's cells. Assumes nothing.
+use mathlib.Core.Path.{_≡_, refl, sym, ap, _∙_, subst}
+use mathlib.Core.Bool.{Bool, true, false, _&&_, cond, true≢false}
+use mathlib.Core.Logic.{_↔_}
+use mathlib.Core.List.{List, [], _∷_}
+use Prim.Native.Nat.{ℕ, zero, suc, _+_, _*_, _/_, _≤_, _<_}
+use native.Mathlib.Nat.{le-trans, le-refl, div-add-mod}
+use native.Mathlib.Omega.{arith}
+use lib.Dec.{T, ltb, leb, ltb→lt, lit<, lit≤}
+use lib.IntN.{ℤ, pos, negsuc, natAbs, _+ℤ_, _-ℤ_, -ℤ-+ℤ-cancel}
+use lib.Signed.{ltZ, leZ}
+use lib.ListN.{length, getD}
+use lib.Ieee.{Float, fin, binary32, ofBits, sub, mul, div, le, eq}
+use borrow.Author.Tests.{ltb-true, ltb-false}
+use mir.Syntax.{w64}
+use mir.Val.{SFits, toZ, ofZ}
+use mir.Facts.{sfits-lit, toZ-ofZ}
+use Rattle.grid.specs.declared.Axes.{Axes}
+use Rattle.grid.specs.declared.Cell.{Cell}
+use Rattle.grid.specs.declared.Placement.{Placement}
+use Rattle.grid.specs.declared.Checked.the-variants.{Fine}
+use Rattle.grid.specs.Grid.{Axis, Sound, cells}
+use Rattle.grid.specs.Checks.{axesFault}
+use Rattle.grid.proofs.Checks.{both-fine, axes-fine, buffer-fine, first-fine}
+use Rattle.ints.specs.Bound.{In, Each, Every, arg, in-add, in-eq, in3, every3}
+use Rattle.ints.specs.Order.{lesser, greater}
+use Rattle.numbers.specs.declared.Whole.{Whole}
+use Rattle.numbers.specs.declared.Whole.the-variants.{Of, TooLarge, NotANumber}
+use Rattle.numbers.specs.Rounding.{parts, half, nearestOf, cellOf}
+use Rattle.numbers.proofs.Laws.{Fitting, nearest-fits, cell-fits}
+use Rattle.sizing.specs.Points.{lengthFault}
+use Rattle.sizing.specs.Sizing.{points}
+use Rattle.touch.specs.Touch.{along, vertex}
+use Rattle.touch.specs.Slabs.{Corners}
+use Rattle.touch.proofs.Meaning.{cell-near}
+use Rattle.mesh.specs.declared.Ends.{Ends}
+use Rattle.mesh.specs.declared.Block.{Block}
+use Rattle.mesh.specs.Mesh.{wholeParts, partsAt, vertexOf, onAxis, onGrid, triangles, corner, triangleOf, firstOf, pastOf, cellAlong, isCandidate}
+use Rattle.mesh.specs.Faults.{names, missingFault, leastScale, greatestScale, lentFault, offFault, lengthsFault, lentNumbersFault, inputFault, meshFault}
+use Rattle.mesh.specs.Ranges.{Named, OnGrid, OnCells, Held, EndsOf, BlockOf, between, holds}
+
+-- ---- a vertex
+
+-- a coordinate fits
+pub parts-fits : (p o r : Float) → SFits w64 (partsAt p o r)
+unfolding partsAt wholeParts
+parts-fits p o r = go (nearestOf parts (mul binary32 (sub binary32 p o) r)) (nearest-fits (mul binary32 (sub binary32 p o) r))
+  where
+    go : (w : Whole) → Fitting w → SFits w64 (wholeParts w)
+    go (Of q) f = f
+    go TooLarge f = sfits-lit tt
+    go NotANumber f = sfits-lit tt
+
+pub both-l : (a b : Bool) → (a && b) ≡ true → a ≡ true
+both-l true b h = refl
+both-l false b h = h
+
+pub both-r : (a b : Bool) → (a && b) ≡ true → b ≡ true
+both-r true b h = h
+both-r false b h = absurd (true≢false (sym h))
+
+-- a coordinate that falls on one of at most 256 cells: its cell, and its range
+pub on-held : (n : ℕ) (q : ℤ) → onAxis n q ≡ true → (i : ℕ) × (cellOf q ≡ pos i) × (i < n)
+unfolding onAxis
+on-held n q h = go (cellOf q) refl h
+  where
+    go : (z : ℤ) → cellOf q ≡ z → (leZ (pos 0) z && ltZ z (pos n)) ≡ true → (i : ℕ) × (cellOf q ≡ pos i) × (i < n)
+    go (pos i) e t = (i, e, ltb-true i n (both-r (leZ (pos 0) (pos i)) (ltb i n) t))
+    go (negsuc i) e t = absurd (true≢false (sym t))
+
+pub on-axis-held : (n : ℕ) (q : ℤ) → Axis n → onAxis n q ≡ true → Held (cellOf q)
+on-axis-held n q a h = let w = on-held n q h in record { number = w .0; is = w .1; small = omega (arith, w .2, a .most) }
+
+pub on-bound : (n : ℕ) (q : ℤ) → Axis n → onAxis n q ≡ true → In 262144 q
+on-bound n q a h =
+    let w = on-held n q h in
+    let i = w .0 in
+    let near : In half (q -ℤ pos (parts * i)) = record { bound = cell-near q i (w .1) } in
+    let whole : In (parts * i) (pos (parts * i)) = record { bound = le-refl (parts * i) } in
+    let all : In (half + parts * i) q = in-eq (sym (-ℤ-+ℤ-cancel q (pos (parts * i)))) (in-add near whole) in
+    record { bound = omega (arith, all .bound, w .2, a .most) }
+
+module _ (r : Axes) (v : List ℤ) (h : onGrid r v ≡ true) where
+  pub on-i : onAxis (r .r0) (along v 0) ≡ true
+  on-i = both-l (onAxis (r .r0) (along v 0)) (onAxis (r .r1) (along v 1)) (both-l (onAxis (r .r0) (along v 0) && onAxis (r .r1) (along v 1)) (onAxis (r .r2) (along v 2)) h)
+
+  pub on-j : onAxis (r .r1) (along v 1) ≡ true
+  on-j = both-r (onAxis (r .r0) (along v 0)) (onAxis (r .r1) (along v 1)) (both-l (onAxis (r .r0) (along v 0) && onAxis (r .r1) (along v 1)) (onAxis (r .r2) (along v 2)) h)
+
+  pub on-k : onAxis (r .r2) (along v 2) ≡ true
+  on-k = both-r (onAxis (r .r0) (along v 0) && onAxis (r .r1) (along v 1)) (onAxis (r .r2) (along v 2)) h
+
+-- ---- what the checks say
+
+pub named : (ps : List Float) (ts : List ℕ) → missingFault (points ps) ts ≡ Fine → Named ps ts
+named ps ts h = record { names = λ k l. ltb-true (getD ts k 0) (points ps) (first-fine 4 (λ k. k / 3) (names (points ps)) 0 ts .0 h k l) }
+
+pub on-grid : (ps : List Float) (ts : List ℕ) (r : Axes) (at : Placement) → offFault ps ts r at ≡ Fine → OnGrid ps ts r at
+on-grid ps ts r at h = record { falls = λ k l. first-fine 10 (λ k. k / 3) (λ v. onGrid r (vertexOf ps at v)) 0 ts .0 h k l }
+
+-- no fault of the first nine numbers: every corner names a point, the axes are sound, the buffer has a label for each cell
+pub record Input (ps : List Float) (ts : List ℕ) (r : Axes) (at : Placement) (len : ℕ) : Type 0 where
+  pub few : lengthFault (length ts) ≡ Fine
+  pub numbers : lentNumbersFault ps at ≡ Fine
+  pub named : Named ps ts
+  pub lent : lentFault at ≡ Fine
+  pub sound : Sound r
+  pub size : len ≡ cells r
+
+pub input-fine : (ps : List Float) (ts : List ℕ) (r : Axes) (at : Placement) (len : ℕ) → inputFault ps ts r at len ≡ Fine → Input ps ts r at len
+input-fine ps ts r at len h =
+    let a = both-fine (lengthsFault ps ts) _ h in
+    let b = both-fine (lentNumbersFault ps at) _ (a .1) in
+    let c = both-fine (missingFault (points ps) ts) _ (b .1) in
+    let d = both-fine (lentFault at) _ (c .1) in
+    let e = both-fine (axesFault r) _ (d .1) in
+    record {
+      few = both-fine (lengthFault (length ts)) _ (both-fine (lengthFault (length ps)) _ (a .0) .1) .0;
+      numbers = b .0;
+      named = named ps ts (c .0);
+      lent = d .0;
+      sound = axes-fine r .0 (e .0);
+      size = buffer-fine r len .0 (e .1);
+    }
+
+-- no fault at all
+pub mesh-fine : (ps : List Float) (ts : List ℕ) (r : Axes) (at : Placement) (len : ℕ) → meshFault ps ts r at len ≡ Fine → Input ps ts r at len × OnGrid ps ts r at
+mesh-fine ps ts r at len h =
+    let a = both-fine (inputFault ps ts r at len) _ h in
+    (input-fine ps ts r at len (a .0), on-grid ps ts r at (a .1))
+
+-- the numbers of a point and of a triangle are in the list
+pub within-points : (n v : ℕ) → v < n / 3 → 3 * v + 2 < n
+within-points n v h = omega (arith, div-add-mod n 3)
+
+-- ---- a triangle
+
+pub on-cells : (ps : List Float) (ts : List ℕ) (r : Axes) (at : Placement) → OnGrid ps ts r at → (t : ℕ) → t < triangles ts → OnCells r (triangleOf ps ts at t)
+on-cells ps ts r at g t h =
+    let l = within-points (length ts) t h in
+    record { on0 = g .falls (3 * t + 0) (omega arith); on1 = g .falls (3 * t + 1) (omega arith); on2 = g .falls (3 * t + 2) l }
+
+pub corners : (ps : List Float) (ts : List ℕ) (r : Axes) (at : Placement) (t : ℕ) → Sound r → OnCells r (triangleOf ps ts at t) → Corners (triangleOf ps ts at t)
+corners ps ts r at t s o = every3 (each (corner ts 0 t) (o .on0)) (each (corner ts 1 t) (o .on1)) (each (corner ts 2 t) (o .on2))
+  where
+    each : (v : ℕ) → onGrid r (vertexOf ps at v) ≡ true → Each 262144 (vertexOf ps at v)
+    each v h =
+        let u = vertexOf ps at v in
+        in3 (on-bound (r .r0) (along u 0) (s .axis0) (on-i r u h)) (on-bound (r .r1) (along u 1) (s .axis1) (on-j r u h)) (on-bound (r .r2) (along u 2) (s .axis2) (on-k r u h))
+
+-- ---- a block holds the candidates, and they are cells of the grid
+
+ends-test : (n : ℕ) (a b c : ℤ) (e : Ends) → EndsOf n a b c e → (x : ℕ) → between e x ≡ (leZ (firstOf a b c) (pos x) && ltZ (pos x) (pastOf n a b c))
+ends-test n a b c e w x = λ t. leZ (w .begins t) (pos x) && ltZ (pos x) (w .stops t)
+
+pub block-test : (t : List (List ℤ)) (r : Axes) (b : Block) → BlockOf t r b → (c : Cell) → holds b c ≡ isCandidate t r c
+unfolding holds isCandidate
+block-test t r b w c =
+    let i = ends-test (r .r0) (cellAlong t 0 0) (cellAlong t 0 1) (cellAlong t 0 2) (b .i) (w .on-i) (c .i) in
+    let j = ends-test (r .r1) (cellAlong t 1 0) (cellAlong t 1 1) (cellAlong t 1 2) (b .j) (w .on-j) (c .j) in
+    let k = ends-test (r .r2) (cellAlong t 2 0) (cellAlong t 2 1) (cellAlong t 2 2) (b .k) (w .on-k) (c .k) in
+    λ s. i s && j s && k s
+
+pub ends-in : (n : ℕ) (a b c : ℤ) (e : Ends) → EndsOf n a b c e → e .to ≤ n
+ends-in n a b c e w = go (greater (greater a b) c +ℤ pos 1) (e .to) (w .stops)
+  where
+    pick : (g : ℤ) (m : ℕ) (t : Bool) → ltZ (pos n) g ≡ t → pos m ≡ cond t (pos n) g → m ≤ n
+    pick g m true h e = le-of m n e
+      where
+        le-of : (m n : ℕ) → pos m ≡ pos n → m ≤ n
+        le-of m n e = let q : m ≡ n = cc in omega arith
+    pick (pos g) m false h e = let q : m ≡ g = cc in let l = ltb-false n g h in omega arith
+    pick (negsuc g) m false h e = absurd (apart m g e)
+      where
+        apart : (m g : ℕ) → pos m ≡ negsuc g → ⊥
+        apart m g e = let z : _≡_ {A = ℕ} 0 1 = cc in omega arith
+
+    go : (g : ℤ) (m : ℕ) → pos m ≡ lesser g (pos n) → m ≤ n
+    go g m e = pick g m (ltZ (pos n) g) refl e
+
+-- the ends of a lent scale, as the code has them
+pub lent-tests : (at : Placement)
+    → (le (ofBits binary32 914358272) (at .scale) && le (at .scale) (ofBits binary32 1241513984) && eq (at .reciprocal) (div binary32 (ofBits binary32 1065353216) (at .scale)))
+    ≡ (le leastScale (at .scale) && le (at .scale) greatestScale && eq (at .reciprocal) (div binary32 (fin false 1 (pos 0)) (at .scale)))
+unfolding ofBits
+lent-tests at = refl
+
+-- ---- cells of an axis as the machine has them
+
+pub cell-read : {r : ℤ} (q : ℤ) → SFits w64 q → r ≡ cellOf (toZ w64 (ofZ w64 q)) → toZ w64 (ofZ w64 r) ≡ cellOf q
+cell-read q f e = ap (λ (z : ℤ). toZ w64 (ofZ w64 z)) (e ∙ ap cellOf (toZ-ofZ f)) ∙ toZ-ofZ (cell-fits q f)
+
+pub held-in : {c : ℤ} → Held c → In 255 c
+held-in h = in-eq (h .is) (record { bound = omega (arith, h .small) })
+
+held-pick : {a b : ℤ} (t : Bool) → Held a → Held b → Held (cond t b a)
+held-pick true h k = k
+held-pick false h k = h
+
+pub held-greater : (a b : ℤ) → Held a → Held b → Held (greater a b)
+held-greater a b h k = held-pick (ltZ a b) h k
+
+-- coordinates on an axis, when they are handed on
+module _ (n : ℕ) (a : Axis n) where
+  axis-read : (q : ℤ) → onAxis n q ≡ true → toZ w64 (ofZ w64 q) ≡ q
+  axis-read q h = arg tt (on-bound n q a h) .is
+
+  pub handed-axis : (q : ℤ) → onAxis n q ≡ true → onAxis n (toZ w64 (ofZ w64 q)) ≡ true
+  handed-axis q h = ap (onAxis n) (axis-read q h) ∙ h
+
+  pub handed-ends : (x y z : ℤ) (e : Ends) → onAxis n x ≡ true → onAxis n y ≡ true → onAxis n z ≡ true
+      → EndsOf n (cellOf (toZ w64 (ofZ w64 x))) (cellOf (toZ w64 (ofZ w64 y))) (cellOf (toZ w64 (ofZ w64 z))) e
+      → EndsOf n (cellOf x) (cellOf y) (cellOf z) e
+  handed-ends x y z e h k l w = record {
+    begins = w .begins ∙ (λ t. firstOf (cellOf (axis-read x h t)) (cellOf (axis-read y k t)) (cellOf (axis-read z l t)));
+    stops = w .stops ∙ (λ t. pastOf n (cellOf (axis-read x h t)) (cellOf (axis-read y k t)) (cellOf (axis-read z l t)));
+  }

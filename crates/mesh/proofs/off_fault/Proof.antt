@@ -1,0 +1,26 @@
+-- `mesh::off_fault` meets its contract. Assumes nothing.
+use mathlib.Core.Path.{ap, _∙_}
+use Prim.Native.Nat.{ℕ, _/_}
+use lib.Dec.{ltb}
+use lib.ListN.{length}
+use Rattle.grid.specs.declared.Checked.the-variants.{Fine}
+use Rattle.grid.specs.Answers.{faultIf}
+use borrow.Author.Needs.{needs}
+use Rattle.mesh.proofs.off_fault.Statement.{statement}
+use Rattle.mesh.proofs.off_fault.Tie as tie
+use Rattle.mesh.proofs.off_fault.Reads as reads
+use Rattle.mesh.proofs.off_fault.Lts as lts
+use Rattle.mesh.proofs.corner_fault.Reads as corner-fault-reads
+use Rattle.mesh.proofs.first_off.Reads as first-off-reads
+
+first-off-requires : tie.Need-first-off-requires
+first-off-requires c κs = c .before .before .pre
+
+corner-fault-requires : tie.Need-corner-fault-requires
+corner-fault-requires c κs = search needs
+
+returns : tie.Need-returns
+returns c = c .corner-fault .ensures ∙ ap (λ (k : ℕ). faultIf (ltb k (length (c .before .before .before .before .args .ts .now))) 10 (k / 3) Fine) (c .before .first-off .ensures)
+
+pub off-fault-spec : {M : Type 1} → statement M
+off-fault-spec = tie.close (tie.spec first-off-requires corner-fault-requires returns)
