@@ -12,7 +12,7 @@ use lib.Seq.{getD-set-same, getD-set-other, ext-getD}
 use borrow.Author.Tests.{eqb-true, eqb-false, eq-eqb}
 use Rattle.grid.specs.declared.Axes.{Axes}
 use Rattle.grid.specs.declared.Cell.{Cell}
-use Rattle.grid.specs.Grid.{Sound, num, cellNumbered, cells, InGrid, at, Next, along-i, along-j, along-k, Face, Border, first-i, first-j, first-k, last-i, last-j, last-k, onBorder}
+use Rattle.grid.specs.Grid.{Sound, num, cellNumbered, cells, InGrid, at, firstOnes, labelsBy, Next, along-i, along-j, along-k, Face, Border, first-i, first-j, first-k, last-i, last-j, last-k, onBorder}
 use Rattle.grid.proofs.First.{le-or-lt}
 
 pub dec-eq : {C : Type 0} (a b : ℕ) → (a ≡ b → C) → ((a ≡ b → ⊥) → C) → C
@@ -107,6 +107,30 @@ dec-cell r c d h g y n = dec-eq (num r c) (num r d) (λ q. y (num-inj r c d h g 
 pub by-cell : (r : Axes) (a b : List ℕ) → length a ≡ cells r → length b ≡ cells r → ((c : Cell) → InGrid r c → at r a c ≡ at r b c) → a ≡ b
 by-cell r a b p q h =
     ext-getD 0 a b (p ∙ sym q) (λ n g. subst (λ (t : ℕ). getD a t 0 ≡ getD b t 0) (number-of-cell r n) (h (cellNumbered r n) (cell-in r n (omega (arith, p)))))
+
+-- ---- the labels that a rule gives
+
+ones-length : (n : ℕ) (f : ℕ → ℕ) → length (firstOnes n f) ≡ n
+unfolding firstOnes
+ones-length zero f = refl
+ones-length (suc n) f = ap suc (ones-length n (λ k. f (suc k)))
+
+ones-at : (n : ℕ) (f : ℕ → ℕ) (k : ℕ) → k < n → getD (firstOnes n f) k 0 ≡ f k
+unfolding firstOnes
+ones-at zero f k h = absurd (omega arith)
+ones-at (suc n) f zero h = refl
+ones-at (suc n) f (suc k) h = ones-at n (λ k. f (suc k)) k (omega arith)
+
+pub labels-length : (r : Axes) (f : Cell → ℕ) → length (labelsBy r f) ≡ cells r
+labels-length r f = ones-length (cells r) (λ n. f (cellNumbered r n))
+
+-- each cell has its own
+pub labels-at : (r : Axes) (f : Cell → ℕ) (c : Cell) → InGrid r c → at r (labelsBy r f) c ≡ f c
+labels-at r f c h = ones-at (cells r) (λ n. f (cellNumbered r n)) (num r c) (num-lt r c h) ∙ ap f (cell-of-number r c h)
+
+-- and there is no other such list
+pub labels-one : (r : Axes) (f : Cell → ℕ) (l : List ℕ) → length l ≡ cells r → ((c : Cell) → InGrid r c → at r l c ≡ f c) → l ≡ labelsBy r f
+labels-one r f l e h = by-cell r l (labelsBy r f) e (labels-length r f) (λ c i. h c i ∙ sym (labels-at r f c i))
 
 -- ---- what a store changes
 

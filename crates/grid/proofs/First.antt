@@ -1,7 +1,7 @@
 -- Laws of specs/First.antt, over the element type and the test: what a loop that looks for the first place goes by, and what its answer says. Assumes nothing.
 use mathlib.Core.Path.{_≡_, refl, sym, ap, _∙_}
-use mathlib.Core.Bool.{Bool, true, false, cond, _&&_, and-assoc, true≢false}
-use mathlib.Core.Logic.{_⊎_, inl, inr, ⊎-elim}
+use mathlib.Core.Bool.{Bool, true, false, cond, _&&_, _||_, and-assoc, true≢false}
+use mathlib.Core.Logic.{_⊎_, inl, inr, ⊎-elim, _↔_}
 use mathlib.Core.List.{List, [], _∷_}
 use Prim.Native.Nat.{ℕ, zero, suc, _+_, _≤_, _<_, zero-le, suc-le-suc}
 use native.Mathlib.Nat.{le-of-suc-le-suc, not-suc-le-zero, lt-of-le-of-lt, add-zero}
@@ -9,7 +9,7 @@ use native.Mathlib.Numerals.{add-one}
 use native.Mathlib.Omega.{arith}
 use lib.ListN.{length, getD, drop, drop-of-length-le}
 use lib.Seq.{drop-cons}
-use Rattle.grid.specs.First.{FirstAt, firstNot, every}
+use Rattle.grid.specs.First.{FirstAt, firstNot, every, someBelow}
 
 pub le-or-lt : (a b : ℕ) → (a ≤ b) ⊎ (b < a)
 le-or-lt zero b = inl zero-le
@@ -131,3 +131,31 @@ some-fails ok (x ∷ xs) h = go (some-fails ok xs) (ok x) h
     go : (every ok xs ≡ false → firstNot ok xs < length xs) → (b : Bool) → (b && every ok xs) ≡ false → cond b (suc (firstNot ok xs)) 0 < length (x ∷ xs)
     go rest true e = suc-le-suc (rest e)
     go rest false e = suc-le-suc zero-le
+
+-- ---- some number below n
+
+or-true : (a b : Bool) → (a || b) ≡ true → (a ≡ true) ⊎ (b ≡ true)
+or-true true b h = inl refl
+or-true false b h = inr h
+
+or-last : (a : Bool) → (a || true) ≡ true
+or-last true = refl
+or-last false = refl
+
+module _ (ok : ℕ → Bool) where
+  found : (n : ℕ) → someBelow n ok ≡ true → (k : ℕ) × (k < n) × (ok k ≡ true)
+  unfolding someBelow
+  found zero h = absurd (true≢false (sym h))
+  found (suc n) h = ⊎-elim (λ a. let w = found n a in (w .0, omega (arith, w .1), w .2)) (λ b. (n, omega arith, b)) (or-true (someBelow n ok) (ok n) h)
+
+  seen : (n k : ℕ) → k < n → ok k ≡ true → someBelow n ok ≡ true
+  unfolding someBelow
+  seen zero k l h = absurd (omega arith)
+  seen (suc n) k l h =
+      ⊎-elim
+      (λ a. let e : n ≡ k = omega arith in ap (λ (b : Bool). someBelow n ok || b) (ap ok e ∙ h) ∙ or-last (someBelow n ok))
+      (λ b. ap (λ (a : Bool). a || ok n) (seen n k b h))
+      (le-or-lt n k)
+
+  pub some-below : (n : ℕ) → (someBelow n ok ≡ true) ↔ ((k : ℕ) × (k < n) × (ok k ≡ true))
+  some-below n = (found n, λ w. seen n (w .0) (w .1) (w .2))

@@ -31,6 +31,11 @@ abbrev pub unless : {A : Type 0} → Checked → Outcome A → Outcome A
 unless (Fault f) o = refuses (f .number) (f .place)
 unless Fine o = o
 
+-- "Nothing lent is then written": what a lent buffer holds after a call, as it was before where the checks find a fault
+abbrev pub lentAfter : {A : Type 0} → Checked → A → A → A
+lentAfter (Fault f) before after = before
+lentAfter Fine before after = after
+
 -- ---- which numbers a call can give
 
 abbrev pub isOneOf : ℕ → List ℕ → Bool

@@ -1,6 +1,6 @@
 -- 01, Input bounds and refusals: "with the first place at fault". Definitions only.
-use Prim.Native.Nat.{ℕ, suc, _<_}
-use mathlib.Core.Bool.{Bool, true, false, cond, _&&_}
+use Prim.Native.Nat.{ℕ, zero, suc, _<_}
+use mathlib.Core.Bool.{Bool, true, false, cond, _&&_, _||_}
 use mathlib.Core.Path.{_≡_}
 use mathlib.Core.List.{List, [], _∷_}
 use lib.ListN.{length, getD}
@@ -20,3 +20,8 @@ firstNot ok (x ∷ xs) = cond (ok x) (suc (firstNot ok xs)) 0
 unfoldable pub every : {A : Type 0} → (A → Bool) → List A → Bool
 every ok [] = true
 every ok (x ∷ xs) = ok x && every ok xs
+
+-- some number below n passes
+unfoldable pub someBelow : ℕ → (ℕ → Bool) → Bool
+someBelow zero ok = false
+someBelow (suc n) ok = someBelow n ok || ok n

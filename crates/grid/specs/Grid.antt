@@ -2,8 +2,8 @@
 use mathlib.Core.Bool.{Bool, _||_}
 use mathlib.Core.Logic.{_⊎_}
 use mathlib.Core.Path.{_≡_}
-use mathlib.Core.List.{List}
-use Prim.Native.Nat.{ℕ, _+_, _*_, _-_, _/_, _%_, _<_, _≤_}
+use mathlib.Core.List.{List, [], _∷_}
+use Prim.Native.Nat.{ℕ, zero, suc, _+_, _*_, _-_, _/_, _%_, _<_, _≤_}
 use lib.Dec.{eqb}
 use lib.ListN.{getD}
 use Rattle.grid.specs.declared.Axes.{Axes}
@@ -40,6 +40,14 @@ cellNumbered r n = record { i = n % r .r0; j = n / r .r0 % r .r1; k = n / r .r0 
 -- the label of a cell
 abbrev pub at : Axes → List ℕ → Cell → ℕ
 at r l c = getD l (num r c) 0
+
+-- the labels that a rule gives to each cell, in the order of cell numbers
+unfoldable pub firstOnes : ℕ → (ℕ → ℕ) → List ℕ
+firstOnes zero f = []
+firstOnes (suc n) f = f 0 ∷ firstOnes n (λ k. f (suc k))
+
+abbrev pub labelsBy : Axes → (Cell → ℕ) → List ℕ
+labelsBy r f = firstOnes (cells r) (λ n. f (cellNumbered r n))
 
 -- d is c's neighbour one further along an axis
 pub data Next (c d : Cell) : Type 0 where

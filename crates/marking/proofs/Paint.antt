@@ -1,0 +1,281 @@
+-- Laws of specs/Painted.antt: painting nothing, a cell, one set and then another; and a walk along an axis, place after place. Assumes nothing.
+use mathlib.Core.Bool.{Bool, true, false, cond, _&&_, _||_, true≢false}
+use mathlib.Core.Logic.{_⊎_, inl, inr, ⊎-elim}
+use mathlib.Core.Path.{_≡_, refl, sym, ap, _∙_}
+use mathlib.Core.List.{List}
+use Prim.Native.Nat.{ℕ, _+_, _*_, _≤_, _<_}
+use native.Mathlib.Numerals.{add-one}
+use native.Mathlib.Omega.{arith}
+use lib.Dec.{leb, ltb}
+use lib.IntN.{ℤ}
+use lib.ListN.{length, set, length-set}
+use borrow.Author.Tests.{le-leb, lt-leb, lt-ltb, le-ltb, leb-true, ltb-true}
+use Rattle.grid.specs.declared.Axes.{Axes}
+use Rattle.grid.specs.declared.Cell.{Cell}
+use Rattle.grid.specs.First.{someBelow}
+use Rattle.grid.specs.Grid.{Sound, InGrid, num, cells, at}
+use Rattle.grid.proofs.First.{le-or-lt}
+use Rattle.grid.proofs.Cells.{cell-path, stored}
+use Rattle.touch.specs.declared.Slabs.{Slabs}
+use Rattle.touch.specs.Touch.{touching}
+use Rattle.touch.specs.Slabs.{keptAll, slabsOf}
+use Rattle.touch.proofs.Laws.{slabs-touch}
+use Rattle.mesh.specs.declared.Ends.{Ends}
+use Rattle.mesh.specs.declared.Block.{Block}
+use Rattle.mesh.specs.Mesh.{isCandidate}
+use Rattle.mesh.specs.Ranges.{BlockOf, between, holds}
+use Rattle.mesh.proofs.Laws.{both-l, both-r, block-test}
+use Rattle.marking.specs.Painted.{Painted, leftIn, one, rowOf, layerOf, Sheet}
+
+-- ---- painting
+
+module _ (r : Axes) where
+  pub painted-none : (p : Cell → Bool) (l : List ℕ) → ((c : Cell) → p c ≡ false) → Painted r p l l
+  painted-none p l h = record { size = refl; labels = λ c i. sym (ap (λ (b : Bool). cond b 8 (at r l c)) (h c)) }
+
+  pub painted-same : (p q : Cell → Bool) (l m : List ℕ) → Painted r p l m → ((c : Cell) → p c ≡ q c) → Painted r q l m
+  painted-same p q l m w h = record { size = w .size; labels = λ c i. w .labels c i ∙ ap (λ (b : Bool). cond b 8 (at r l c)) (h c) }
+
+  pub painted-then : (p q s : Cell → Bool) (l m n : List ℕ) → Painted r p l m → Painted r q m n → ((c : Cell) → s c ≡ (p c || q c)) → Painted r s l n
+  painted-then p q s l m n a b h =
+      record {
+        size = b .size ∙ a .size;
+        labels = λ c i.
+            b .labels c i ∙ ap (λ (v : ℕ). cond (q c) 8 v) (a .labels c i) ∙ either (p c) (q c) (at r l c) ∙ sym (ap (λ (t : Bool). cond t 8 (at r l c)) (h c));
+      }
+    where
+      either : (a b : Bool) (v : ℕ) → cond b 8 (cond a 8 v) ≡ cond (a || b) 8 v
+      either true true v = refl
+      either true false v = refl
+      either false b v = refl
+
+  -- a sheet stays one
+  pub painted-sheet : (p : Cell → Bool) (l m : List ℕ) → Painted r p l m → Sheet r l → Sheet r m
+  painted-sheet p l m w s = record { sound = s .sound; size = w .size ∙ s .size }
+
+-- ---- along an axis: the places from e's first up to, not including, i
+
+abbrev pub upto : Ends → ℕ → Ends
+upto e i = record { from = e .from; to = i }
+
+-- a walk along e that stands at i
+pub record Walk (e : Ends) (i : ℕ) : Type 0 where
+  pub low : e .from ≤ i
+  pub high : (i ≤ e .to) ⊎ (i ≡ e .from)
+
+pub walk-starts : (e : Ends) → Walk e (e .from)
+walk-starts e = record { low = omega arith; high = inr refl }
+
+pub walk-on : (e : Ends) (i : ℕ) → Walk e i → i < e .to → Walk e (i + 1)
+walk-on e i w h = record { low = omega (arith, w .low); high = inl (omega arith) }
+
+empty : (a x : ℕ) → (leb a x && ltb x a) ≡ false
+empty a x = ⊎-elim (λ h. ap (λ (b : Bool). b && ltb x a) (le-leb a x h) ∙ le-ltb x a h) (λ h. ap (λ (b : Bool). b && ltb x a) (lt-leb a x h)) (le-or-lt a x)
+
+-- no place yet
+pub upto-none : (e : Ends) (x : ℕ) → between (upto e (e .from)) x ≡ false
+upto-none e x = empty (e .from) x
+
+-- one place more
+pub upto-more : (e : Ends) (i : ℕ) → Walk e i → (x : ℕ) → between (upto e (i + 1)) x ≡ (between (upto e i) x || between (one i) x)
+upto-more e i w x =
+    ⊎-elim
+    (λ h. ⊎-elim (λ k. at-place h k) (λ k. past-place k) (le-or-lt x i))
+    (λ h. before-place h)
+    (le-or-lt i x)
+  where
+    a : ℕ
+    a = e .from
+
+    at-place : i ≤ x → x ≤ i → (leb a x && ltb x (i + 1)) ≡ ((leb a x && ltb x i) || (leb i x && ltb x (i + 1)))
+    at-place h k =
+        let l = w .low in
+        rw (le-leb a x (omega arith), lt-ltb x (i + 1) (omega arith), le-ltb x i h, le-leb i x h)
+
+    past-place : i < x → (leb a x && ltb x (i + 1)) ≡ ((leb a x && ltb x i) || (leb i x && ltb x (i + 1)))
+    past-place h =
+        let l = w .low in
+        rw (le-leb a x (omega arith), le-ltb x (i + 1) (omega arith), le-ltb x i (omega arith), le-leb i x (omega arith))
+
+    before-place : x < i → (leb a x && ltb x (i + 1)) ≡ ((leb a x && ltb x i) || (leb i x && ltb x (i + 1)))
+    before-place h = rw (lt-ltb x (i + 1) (omega arith), lt-ltb x i h, lt-leb i x h) (or-none (leb a x))
+      where
+        or-none : (b : Bool) → (b && true) ≡ ((b && true) || false)
+        or-none true = refl
+        or-none false = refl
+
+-- every place
+pub upto-done : (e : Ends) (i : ℕ) → Walk e i → e .to ≤ i → (x : ℕ) → between (upto e i) x ≡ between e x
+upto-done e i w h x =
+    ⊎-elim
+    (λ k. let q : i ≡ e .to = omega arith in ap (λ (n : ℕ). leb (e .from) x && ltb x n) q)
+    (λ k. ap (λ (n : ℕ). leb (e .from) x && ltb x n) k ∙ empty (e .from) x ∙ sym (none (e .from) (e .to) x (omega arith)))
+    (w .high)
+  where
+    none : (a b x : ℕ) → b ≤ a → (leb a x && ltb x b) ≡ false
+    none a b x l =
+        ⊎-elim (λ p. ap (λ (t : Bool). t && ltb x b) (le-leb a x p) ∙ le-ltb x b (omega arith)) (λ p. ap (λ (t : Bool). t && ltb x b) (lt-leb a x p)) (le-or-lt a x)
+
+-- ---- a set with one more place along i, j or k
+
+share : (x y k : Bool) → ((x || y) && k) ≡ ((x && k) || (y && k))
+share true y true = refl
+share true true false = refl
+share true false false = refl
+share false y k = refl
+
+share-two : (x y c k : Bool) → ((x || y) && c && k) ≡ ((x && c && k) || (y && c && k))
+share-two x y c k = ap (λ (b : Bool). b && k) (share x y c) ∙ share (x && c) (y && c) k
+
+grow-i : (x y b c k : Bool) → ((x || y) && b && c && k) ≡ ((x && b && c && k) || (y && b && c && k))
+grow-i x y b c k = ap (λ (t : Bool). t && c && k) (share x y b) ∙ share-two (x && b) (y && b) c k
+
+grow-j : (a x y c k : Bool) → (a && (x || y) && c && k) ≡ ((a && x && c && k) || (a && y && c && k))
+grow-j true x y c k = share-two x y c k
+grow-j false x y c k = refl
+
+grow-k : (a b x y k : Bool) → (a && b && (x || y) && k) ≡ ((a && b && x && k) || (a && b && y && k))
+grow-k true true x y k = share x y k
+grow-k true false x y k = refl
+grow-k false b x y k = refl
+
+-- the same of a block of which one axis is walked; i, j and k stand for its other ends
+module _ (s : Slabs) (e : Ends) (n : ℕ) (w : Walk e n) where
+  pub more-i : (j k : Ends) (c : Cell)
+      → leftIn (record { i = upto e (n + 1); j = j; k = k }) s c ≡ (leftIn (record { i = upto e n; j = j; k = k }) s c || leftIn (record { i = one n; j = j; k = k }) s c)
+  unfolding holds
+  more-i j k c =
+      ap (λ (t : Bool). t && between j (c .j) && between k (c .k) && keptAll s c) (upto-more e n w (c .i))
+      ∙ grow-i (between (upto e n) (c .i)) (between (one n) (c .i)) (between j (c .j)) (between k (c .k)) (keptAll s c)
+
+  pub more-j : (i k : Ends) (c : Cell)
+      → leftIn (record { i = i; j = upto e (n + 1); k = k }) s c ≡ (leftIn (record { i = i; j = upto e n; k = k }) s c || leftIn (record { i = i; j = one n; k = k }) s c)
+  unfolding holds
+  more-j i k c =
+      ap (λ (t : Bool). between i (c .i) && t && between k (c .k) && keptAll s c) (upto-more e n w (c .j))
+      ∙ grow-j (between i (c .i)) (between (upto e n) (c .j)) (between (one n) (c .j)) (between k (c .k)) (keptAll s c)
+
+  pub more-k : (i j : Ends) (c : Cell)
+      → leftIn (record { i = i; j = j; k = upto e (n + 1) }) s c ≡ (leftIn (record { i = i; j = j; k = upto e n }) s c || leftIn (record { i = i; j = j; k = one n }) s c)
+  unfolding holds
+  more-k i j c =
+      ap (λ (t : Bool). between i (c .i) && between j (c .j) && t && keptAll s c) (upto-more e n w (c .k))
+      ∙ grow-k (between i (c .i)) (between j (c .j)) (between (upto e n) (c .k)) (between (one n) (c .k)) (keptAll s c)
+
+-- nothing yet, and all
+module _ (s : Slabs) (e : Ends) where
+  none-k : (a b k : Bool) → (a && b && false && k) ≡ false
+  none-k true true k = refl
+  none-k true false k = refl
+  none-k false b k = refl
+
+  none-j : (a c k : Bool) → (a && false && c && k) ≡ false
+  none-j true c k = refl
+  none-j false c k = refl
+
+  pub none-along-i : (j k : Ends) (c : Cell) → leftIn (record { i = upto e (e .from); j = j; k = k }) s c ≡ false
+  unfolding holds
+  none-along-i j k c = ap (λ (t : Bool). t && between j (c .j) && between k (c .k) && keptAll s c) (upto-none e (c .i))
+
+  pub none-along-j : (i k : Ends) (c : Cell) → leftIn (record { i = i; j = upto e (e .from); k = k }) s c ≡ false
+  unfolding holds
+  none-along-j i k c =
+      ap (λ (t : Bool). between i (c .i) && t && between k (c .k) && keptAll s c) (upto-none e (c .j)) ∙ none-j (between i (c .i)) (between k (c .k)) (keptAll s c)
+
+  pub none-along-k : (i j : Ends) (c : Cell) → leftIn (record { i = i; j = j; k = upto e (e .from) }) s c ≡ false
+  unfolding holds
+  none-along-k i j c =
+      ap (λ (t : Bool). between i (c .i) && between j (c .j) && t && keptAll s c) (upto-none e (c .k)) ∙ none-k (between i (c .i)) (between j (c .j)) (keptAll s c)
+
+  module _ (n : ℕ) (w : Walk e n) (h : e .to ≤ n) where
+    pub done-i : (j k : Ends) (c : Cell) → leftIn (record { i = upto e n; j = j; k = k }) s c ≡ leftIn (record { i = e; j = j; k = k }) s c
+    unfolding holds
+    done-i j k c = ap (λ (t : Bool). t && between j (c .j) && between k (c .k) && keptAll s c) (upto-done e n w h (c .i))
+
+    pub done-j : (i k : Ends) (c : Cell) → leftIn (record { i = i; j = upto e n; k = k }) s c ≡ leftIn (record { i = i; j = e; k = k }) s c
+    unfolding holds
+    done-j i k c = ap (λ (t : Bool). between i (c .i) && t && between k (c .k) && keptAll s c) (upto-done e n w h (c .j))
+
+    pub done-k : (i j : Ends) (c : Cell) → leftIn (record { i = i; j = j; k = upto e n }) s c ≡ leftIn (record { i = i; j = j; k = e }) s c
+    unfolding holds
+    done-k i j c = ap (λ (t : Bool). between i (c .i) && between j (c .j) && t && keptAll s c) (upto-done e n w h (c .k))
+
+-- ---- one cell
+
+one-is : (n x : ℕ) → between (one n) x ≡ true → x ≡ n
+one-is n x h =
+    let p = leb-true n x (both-l (leb n x) (ltb x (n + 1)) h) in
+    let q = ltb-true x (n + 1) (both-r (leb n x) (ltb x (n + 1)) h) in
+    omega arith
+
+one-here : (n : ℕ) → between (one n) n ≡ true
+one-here n = rw (le-leb n n (omega arith), lt-ltb n (n + 1) (omega arith))
+
+holds-here : (i j k : ℕ) → holds (rowOf (one i) j k) (record { i = i; j = j; k = k }) ≡ true
+unfolding holds
+holds-here i j k = rw (one-here i, one-here j, one-here k)
+
+holds-is : (i j k : ℕ) (c : Cell) → holds (rowOf (one i) j k) c ≡ true → c ≡ record { i = i; j = j; k = k }
+unfolding holds
+holds-is i j k c h =
+    let x = between (one i) (c .i) in
+    let y = between (one j) (c .j) in
+    let z = between (one k) (c .k) in
+    let xy = both-l (x && y) z h in
+    cell-path c (record { i = i; j = j; k = k }) (one-is i (c .i) (both-l x y xy)) (one-is j (c .j) (both-r x y xy)) (one-is k (c .k) (both-r (x && y) z h))
+
+-- a store at a cell paints it alone
+pub painted-cell : (r : Axes) (s : Slabs) (l : List ℕ) (i j k w : ℕ) → Sheet r l → InGrid r (record { i = i; j = j; k = k })
+    → w ≡ cond (keptAll s (record { i = i; j = j; k = k })) 8 (at r l (record { i = i; j = j; k = k }))
+    → Painted r (leftIn (rowOf (one i) j k) s) l (set l (num r (record { i = i; j = j; k = k })) w)
+painted-cell r s l i j k w h g e =
+    record {
+      size = length-set l (num r d) w;
+      labels = λ c in-c. stored r l w c d in-c g (h .size) (λ q v. v ∙ e ∙ same c q) (λ z v. v ∙ other c z);
+    }
+  where
+    d : Cell
+    d = record { i = i; j = j; k = k }
+
+    here : leftIn (rowOf (one i) j k) s d ≡ keptAll s d
+    here = ap (λ (t : Bool). t && keptAll s d) (holds-here i j k)
+
+    same : (c : Cell) → c ≡ d → cond (keptAll s d) 8 (at r l d) ≡ cond (leftIn (rowOf (one i) j k) s c) 8 (at r l c)
+    same c q = sym (ap (λ (x : Cell). cond (leftIn (rowOf (one i) j k) s x) 8 (at r l x)) q ∙ ap (λ (t : Bool). cond t 8 (at r l d)) here)
+
+    other : (c : Cell) → (c ≡ d → ⊥) → at r l c ≡ cond (leftIn (rowOf (one i) j k) s c) 8 (at r l c)
+    other c z = go (holds (rowOf (one i) j k) c) refl
+      where
+        go : (t : Bool) → holds (rowOf (one i) j k) c ≡ t → at r l c ≡ cond (leftIn (rowOf (one i) j k) s c) 8 (at r l c)
+        go true f = absurd (z (holds-is i j k c f))
+        go false f = sym (ap (λ (t : Bool). cond (t && keptAll s c) 8 (at r l c)) f)
+
+-- ---- a loop along an axis that stands at n, and has painted a set
+
+pub record Along (r : Axes) (e : Ends) (n : ℕ) (done : Cell → Bool) (before after : List ℕ) : Type 0 where
+  pub walk : Walk e n
+  pub painted : Painted r done before after
+
+module _ (r : Axes) (e : Ends) where
+  pub along-starts : (p : Cell → Bool) (l : List ℕ) → ((c : Cell) → p c ≡ false) → Along r e (e .from) p l l
+  along-starts p l h = record { walk = walk-starts e; painted = painted-none r p l h }
+
+  pub along-on : (n : ℕ) (p q s : Cell → Bool) (l m k : List ℕ) → Along r e n p l m → n < e .to → Painted r q m k → ((c : Cell) → s c ≡ (p c || q c)) → Along r e (n + 1) s l k
+  along-on n p q s l m k w h b f = record { walk = walk-on e n (w .walk) h; painted = painted-then r p q s l m k (w .painted) b f }
+
+  pub along-sheet : (n : ℕ) (p : Cell → Bool) (l m : List ℕ) → Along r e n p l m → Sheet r l → Sheet r m
+  along-sheet n p l m w s = painted-sheet r p l m (w .painted) s
+
+-- ---- what a block and its slabs leave is what the triangle hits
+pub left-hits : (t : List (List ℤ)) (r : Axes) (b : Block) (s : Slabs) → BlockOf t r b → s ≡ slabsOf t → (c : Cell) → leftIn b s c ≡ (isCandidate t r c && touching t c)
+left-hits t r b s w e c =
+    ap (λ (x : Bool). x && keptAll s c) (block-test t r b w c) ∙ ap (λ (x : Bool). isCandidate t r c && x) (ap (λ (x : Slabs). keptAll x c) e ∙ slabs-touch t c)
+
+-- ---- triangle after triangle
+pub some-none : (f : ℕ → Bool) → someBelow 0 f ≡ false
+unfolding someBelow
+some-none f = refl
+
+pub some-more : (n : ℕ) (f : ℕ → Bool) → someBelow (n + 1) f ≡ (someBelow n f || f n)
+unfolding someBelow
+some-more n f = ap (λ (k : ℕ). someBelow k f) (add-one n)

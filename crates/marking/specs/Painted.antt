@@ -1,0 +1,45 @@
+-- What the loops of `marking` say to each other: cells of some set become 8, and the others stay. Definitions only.
+use mathlib.Core.Bool.{Bool, cond, _&&_}
+use mathlib.Core.Path.{_≡_}
+use mathlib.Core.List.{List}
+use Prim.Native.Nat.{ℕ, _+_, _≤_, _<_}
+use lib.ListN.{length}
+use lib.Ieee.{Float}
+use Rattle.grid.specs.declared.Axes.{Axes}
+use Rattle.grid.specs.declared.Cell.{Cell}
+use Rattle.grid.specs.declared.Placement.{Placement}
+use Rattle.grid.specs.Grid.{Sound, InGrid, cells, at}
+use Rattle.touch.specs.declared.Slabs.{Slabs}
+use Rattle.touch.specs.Slabs.{Mild, keptAll}
+use Rattle.mesh.specs.declared.Ends.{Ends}
+use Rattle.mesh.specs.declared.Block.{Block}
+use Rattle.mesh.specs.Ranges.{Named, OnGrid, holds}
+
+pub record Painted (r : Axes) (set : Cell → Bool) (before after : List ℕ) : Type 0 where
+  pub size : length after ≡ length before
+  pub labels : (c : Cell) → InGrid r c → at r after c ≡ cond (set c) 8 (at r before c)
+
+-- the cells of a block that thirteen slabs leave
+abbrev pub leftIn : Block → Slabs → Cell → Bool
+leftIn b s c = holds b c && keptAll s c
+
+-- one place along an axis; one row, and one layer, of a block
+abbrev pub one : ℕ → Ends
+one n = record { from = n; to = n + 1 }
+
+abbrev pub rowOf : Ends → ℕ → ℕ → Block
+rowOf e j k = record { i = e; j = one j; k = one k }
+
+abbrev pub layerOf : Block → ℕ → Block
+layerOf b k = record { i = b .i; j = b .j; k = one k }
+
+-- a label for each cell of a sound grid
+pub record Sheet (r : Axes) (l : List ℕ) : Type 0 where
+  pub sound : Sound r
+  pub size : length l ≡ cells r
+
+-- a mesh without fault
+pub record Ready (ps : List Float) (ts : List ℕ) (r : Axes) (at : Placement) : Type 0 where
+  pub named : Named ps ts
+  pub on : OnGrid ps ts r at
+  pub few : length ts ≤ 196608

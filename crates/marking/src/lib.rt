@@ -1,0 +1,127 @@
+// Marking: which cells the steel passes through.
+ghost use mathlib.Core.Bool.{cond};
+ghost use mathlib.Core.Path.{_≡_};
+ghost use Prim.Native.Nat.{_≤_, _<_};
+ghost use lib.ListN.{length, replicate};
+ghost use Rattle.touch.specs.Slabs.{Mild};
+ghost use Rattle.mesh.specs.Mesh.{triangles};
+ghost use Rattle.marking.specs.Marked.{outcome, hits, isSurface, markAnswer, markLabels};
+ghost use Rattle.marking.specs.Painted.{Painted, leftIn, rowOf, layerOf, Sheet, Ready};
+use grid::Axes;
+use grid::Cell;
+use grid::Checked;
+use grid::Placement;
+use grid::Refusal;
+use mesh::Block;
+use mesh::Ends;
+use touch::Slabs;
+
+// What marking answers; the marks are in the labels.
+pub enum Marking {
+    Marked,
+    Refused(Refusal),
+}
+
+fn clear(labels: &mut [u8])
+    ensures { λ _. ⌜ now (labels .exit) ≡ replicate (length (now (labels .entry))) 0 ⌝ }
+{
+    let mut n = 0usize;
+    while n < labels.len() {
+        labels[n] = 0;
+        n += 1;
+    }
+}
+
+fn mark_if(touched: bool, label: u8) -> u8
+    ensures { λ v. ⌜ v ≡ cond touched 8 label ⌝ }
+{
+    if touched { 8 } else { label }
+}
+
+// The cells of a row, in memory order.
+fn mark_row(labels: &mut [u8], s: Slabs, r: Axes, e: Ends, j: usize, k: usize)
+    requires { ⌜ Sheet r (now labels) ⌝ }
+    requires { ⌜ Mild s ⌝ }
+    requires { ⌜ (e .to ≤ r .r0) × (j < r .r1) × (k < r .r2) ⌝ }
+    ensures { λ _. ⌜ Painted r (leftIn (rowOf e j k) s) (now (labels .entry)) (now (labels .exit)) ⌝ }
+{
+    let to = e.to;
+    let mut i = e.from;
+    while i < to {
+        let c = Cell { i, j, k };
+        let n = grid::number(r, c);
+        let v = mark_if(touch::within(s, c), labels[n]);
+        labels[n] = v;
+        i += 1;
+    }
+}
+
+fn mark_layer(labels: &mut [u8], s: Slabs, r: Axes, b: Block, k: usize)
+    requires { ⌜ Sheet r (now labels) ⌝ }
+    requires { ⌜ Mild s ⌝ }
+    requires { ⌜ (b .i .to ≤ r .r0) × (b .j .to ≤ r .r1) × (k < r .r2) ⌝ }
+    ensures { λ _. ⌜ Painted r (leftIn (layerOf b k) s) (now (labels .entry)) (now (labels .exit)) ⌝ }
+{
+    let e = b.i;
+    let to = b.j.to;
+    let mut j = b.j.from;
+    while j < to {
+        mark_row(labels, s, r, e, j, k);
+        j += 1;
+    }
+}
+
+fn mark_block(labels: &mut [u8], s: Slabs, r: Axes, b: Block)
+    requires { ⌜ Sheet r (now labels) ⌝ }
+    requires { ⌜ Mild s ⌝ }
+    requires { ⌜ (b .i .to ≤ r .r0) × (b .j .to ≤ r .r1) × (b .k .to ≤ r .r2) ⌝ }
+    ensures { λ _. ⌜ Painted r (leftIn b s) (now (labels .entry)) (now (labels .exit)) ⌝ }
+{
+    let to = b.k.to;
+    let mut k = b.k.from;
+    while k < to {
+        mark_layer(labels, s, r, b, k);
+        k += 1;
+    }
+}
+
+// The cells of triangle t: what depends on the triangle alone is computed here, once.
+fn mark_triangle(labels: &mut [u8], ps: &[f32], ts: &[u32], r: Axes, at: Placement, t: usize)
+    requires { ⌜ Sheet r (now labels) ⌝ }
+    requires { ⌜ Ready (now ps) (now ts) r at ⌝ }
+    requires { ⌜ t < triangles (now ts) ⌝ }
+    ensures { λ _. ⌜ Painted r (hits (now (ps .entry)) (now (ts .entry)) r at t) (now (labels .entry)) (now (labels .exit)) ⌝ }
+{
+    let triangle = mesh::triangle_of(ps, ts, at, t);
+    let block = mesh::candidates(triangle, r);
+    let slabs = touch::slabs_of(triangle);
+    mark_block(labels, slabs, r, block);
+}
+
+fn mark_triangles(labels: &mut [u8], ps: &[f32], ts: &[u32], r: Axes, at: Placement)
+    requires { ⌜ Sheet r (now labels) ⌝ }
+    requires { ⌜ Ready (now ps) (now ts) r at ⌝ }
+    ensures { λ _. ⌜ Painted r (isSurface (now (ps .entry)) (now (ts .entry)) r at) (now (labels .entry)) (now (labels .exit)) ⌝ }
+{
+    let n = ts.len() / 3;
+    let mut t = 0usize;
+    while t < n {
+        mark_triangle(labels, ps, ts, r, at, t);
+        t += 1;
+    }
+}
+
+// Marks the cells that triangles touch with 8 and every other cell with 0, or refuses and writes nothing.
+pub fn mark(points: &[f32], triangles: &[u32], r: Axes, at: Placement, labels: &mut [u8]) -> Marking
+    ensures { λ m. ⌜ outcome m ≡ markAnswer (now (points .entry)) (now (triangles .entry)) r at (now (labels .entry)) ⌝ }
+    ensures { λ _. ⌜ now (labels .exit) ≡ markLabels (now (points .entry)) (now (triangles .entry)) r at (now (labels .entry)) ⌝ }
+{
+    match mesh::mesh_fault(points, triangles, r, at, labels.len()) {
+        Checked::Fault(f) => Marking::Refused(f),
+        Checked::Fine => {
+            clear(labels);
+            mark_triangles(labels, points, triangles, r, at);
+            Marking::Marked
+        }
+    }
+}
