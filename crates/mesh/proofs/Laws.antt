@@ -1,7 +1,7 @@
 -- Laws of the specs of `mesh`: what a vertex that falls on a cell is, what the checks say of a mesh, and a block's cells. Assumes nothing.
 use mathlib.Core.Path.{_≡_, refl, sym, ap, _∙_, subst}
 use mathlib.Core.Bool.{Bool, true, false, _&&_, cond, true≢false}
-use mathlib.Core.Logic.{_↔_}
+use mathlib.Core.Logic.{_↔_, _⊎_, inl, inr, ⊎-elim}
 use mathlib.Core.List.{List, [], _∷_}
 use Prim.Native.Nat.{ℕ, zero, suc, _+_, _*_, _/_, _≤_, _<_}
 use native.Mathlib.Nat.{le-trans, le-refl, div-add-mod}
@@ -11,7 +11,7 @@ use lib.IntN.{ℤ, pos, negsuc, natAbs, _+ℤ_, _-ℤ_, -ℤ-+ℤ-cancel}
 use lib.Signed.{ltZ, leZ}
 use lib.ListN.{length, getD}
 use lib.Ieee.{Float, fin, binary32, ofBits, sub, mul, div, le, eq}
-use borrow.Author.Tests.{ltb-true, ltb-false}
+use borrow.Author.Tests.{ltb-true, ltb-false, lt-ltb, le-ltb, le-leb}
 use mir.Syntax.{w64}
 use mir.Val.{SFits, toZ, ofZ}
 use mir.Facts.{sfits-lit, toZ-ofZ}
@@ -19,11 +19,12 @@ use Rattle.grid.specs.declared.Axes.{Axes}
 use Rattle.grid.specs.declared.Cell.{Cell}
 use Rattle.grid.specs.declared.Placement.{Placement}
 use Rattle.grid.specs.declared.Checked.the-variants.{Fine}
-use Rattle.grid.specs.Grid.{Axis, Sound, cells}
+use Rattle.grid.specs.Grid.{Axis, Sound, InGrid, cells}
 use Rattle.grid.specs.Checks.{axesFault}
 use Rattle.grid.proofs.Checks.{both-fine, axes-fine, buffer-fine, first-fine}
 use Rattle.ints.specs.Bound.{In, Each, Every, arg, in-add, in-eq, in3, every3}
-use Rattle.ints.specs.Order.{lesser, greater}
+use Rattle.ints.specs.Order.{lesser, greater, lt-lesser}
+use Rattle.ints.specs.Parts.{eq-sub, pos-sub}
 use Rattle.numbers.specs.declared.Whole.{Whole}
 use Rattle.numbers.specs.declared.Whole.the-variants.{Of, TooLarge, NotANumber}
 use Rattle.numbers.specs.Rounding.{parts, half, nearestOf, cellOf}
@@ -35,7 +36,7 @@ use Rattle.touch.specs.Slabs.{Corners}
 use Rattle.touch.proofs.Meaning.{cell-near}
 use Rattle.mesh.specs.declared.Ends.{Ends}
 use Rattle.mesh.specs.declared.Block.{Block}
-use Rattle.mesh.specs.Mesh.{wholeParts, partsAt, vertexOf, onAxis, onGrid, triangles, corner, triangleOf, firstOf, pastOf, cellAlong, isCandidate}
+use Rattle.mesh.specs.Mesh.{wholeParts, partsAt, vertexOf, onAxis, onGrid, triangles, corner, triangleOf, firstOf, pastOf, cellAlong, candidateAlong, isCandidate}
 use Rattle.mesh.specs.Faults.{names, missingFault, leastScale, greatestScale, lentFault, offFault, lengthsFault, lentNumbersFault, inputFault, meshFault}
 use Rattle.mesh.specs.Ranges.{Named, OnGrid, OnCells, Held, EndsOf, BlockOf, between, holds}
 
@@ -215,3 +216,97 @@ module _ (n : ℕ) (a : Axis n) where
     begins = w .begins ∙ (λ t. firstOf (cellOf (axis-read x h t)) (cellOf (axis-read y k t)) (cellOf (axis-read z l t)));
     stops = w .stops ∙ (λ t. pastOf n (cellOf (axis-read x h t)) (cellOf (axis-read y k t)) (cellOf (axis-read z l t)));
   }
+
+-- ---- a vertex's own cell is a candidate
+
+lesser-two : (x y : ℕ) → (l : ℕ) × (lesser (pos x) (pos y) ≡ pos l) × (l ≤ x) × (l ≤ y)
+lesser-two x y = go (ltb y x) refl
+  where
+    go : (t : Bool) → ltb y x ≡ t → (l : ℕ) × (cond t (pos y) (pos x) ≡ pos l) × (l ≤ x) × (l ≤ y)
+    go true h = let k = ltb-true y x h in (y, refl, omega arith, omega arith)
+    go false h = (x, refl, omega arith, ltb-false y x h)
+
+greater-two : (x y : ℕ) → (g : ℕ) × (greater (pos x) (pos y) ≡ pos g) × (x ≤ g) × (y ≤ g)
+greater-two x y = go (ltb x y) refl
+  where
+    go : (t : Bool) → ltb x y ≡ t → (g : ℕ) × (cond t (pos y) (pos x) ≡ pos g) × (x ≤ g) × (y ≤ g)
+    go true h = let k = ltb-true x y h in (y, refl, omega arith, omega arith)
+    go false h = (x, refl, omega arith, ltb-false x y h)
+
+one-less : (l w : ℕ) → l ≤ w → leZ (greater (pos l -ℤ pos 1) (pos 0)) (pos w) ≡ true
+one-less zero w h = le-leb 0 w (omega arith)
+one-less (suc l) w h =
+    ap (λ (z : ℤ). leZ (greater z (pos 0)) (pos w)) (eq-sub (suc l) 1 l 0 (omega arith) ∙ sym (pos-sub l))
+    ∙ ap (λ (t : Bool). leZ (cond t (pos 0) (pos l)) (pos w)) (le-ltb l 0 (omega arith))
+    ∙ le-leb l w (omega arith)
+
+-- of three cells of an axis, each one
+pub own-candidate : (n x y z w : ℕ) → (x ≡ w) ⊎ ((y ≡ w) ⊎ (z ≡ w)) → w < n
+    → (leZ (firstOf (pos x) (pos y) (pos z)) (pos w) && ltZ (pos w) (pastOf n (pos x) (pos y) (pos z))) ≡ true
+own-candidate n x y z w which h =
+    let a = lesser-two x y in
+    let l = lesser-two (a .0) z in
+    let b = greater-two x y in
+    let g = greater-two (b .0) z in
+    let least : lesser (lesser (pos x) (pos y)) (pos z) ≡ pos (l .0) = ap (λ (i : ℤ). lesser i (pos z)) (a .1) ∙ l .1 in
+    let most : greater (greater (pos x) (pos y)) (pos z) ≡ pos (g .0) = ap (λ (i : ℤ). greater i (pos z)) (b .1) ∙ g .1 in
+    let low : l .0 ≤ w = ⊎-elim (λ e. omega (arith, a .2, l .2)) (λ r. ⊎-elim (λ e. omega (arith, a .3, l .2)) (λ e. omega (arith, l .3)) r) which in
+    let high : w ≤ g .0 = ⊎-elim (λ e. omega (arith, b .2, g .2)) (λ r. ⊎-elim (λ e. omega (arith, b .3, g .2)) (λ e. omega (arith, g .3)) r) which in
+    let from = ap (λ (i : ℤ). leZ (greater (i -ℤ pos 1) (pos 0)) (pos w)) least ∙ one-less (l .0) w low in
+    let to : ltZ (pos w) (pastOf n (pos x) (pos y) (pos z)) ≡ true =
+    lt-lesser (pos w) (greater (greater (pos x) (pos y)) (pos z) +ℤ pos 1) (pos n)
+    ∙ ap (λ (i : ℤ). ltZ (pos w) (i +ℤ pos 1) && ltb w n) most
+    ∙ rw (lt-ltb w (g .0 + 1) (omega arith), lt-ltb w n h) in
+    rw (from, to)
+
+-- the cell of a vertex
+pub record IsCellOf (v : List ℤ) (c : Cell) : Type 0 where
+  pub on-i : cellOf (along v 0) ≡ pos (c .i)
+  pub on-j : cellOf (along v 1) ≡ pos (c .j)
+  pub on-k : cellOf (along v 2) ≡ pos (c .k)
+
+-- a vertex that falls on a cell has one, and it is a cell of the grid
+pub own-in : (r : Axes) (v : List ℤ) (c : Cell) → onGrid r v ≡ true → IsCellOf v c → InGrid r c
+own-in r v c h w =
+    record {
+      i-in = below (r .r0) (along v 0) (c .i) (on-i r v h) (w .on-i);
+      j-in = below (r .r1) (along v 1) (c .j) (on-j r v h) (w .on-j);
+      k-in = below (r .r2) (along v 2) (c .k) (on-k r v h) (w .on-k);
+    }
+  where
+    below : (n : ℕ) (q : ℤ) (i : ℕ) → onAxis n q ≡ true → cellOf q ≡ pos i → i < n
+    below n q i h e = let w = on-held n q h in let same : w .0 ≡ i = number (sym (w .1) ∙ e) in omega (arith, w .2)
+      where
+        number : {a b : ℕ} → pos a ≡ pos b → a ≡ b
+        number e = cc
+
+-- and a candidate of the triangle
+pub own-is-candidate : (t : List (List ℤ)) (r : Axes) (n : ℕ) (c : Cell) → OnCells r t → n < 3 → IsCellOf (vertex t n) c → isCandidate t r c ≡ true
+unfolding isCandidate
+own-is-candidate t r n c o h w =
+    rw (along-axis (r .r0) 0 (c .i) (λ v k. on-i r (vertex t v) (on v k)) (w .on-i), along-axis (r .r1) 1 (c .j) (λ v k. on-j r (vertex t v) (on v k)) (w .on-j), along-axis (r .r2) 2 (c .k) (λ v k. on-k r (vertex t v) (on v k)) (w .on-k))
+  where
+    on : (v : ℕ) → v < 3 → onGrid r (vertex t v) ≡ true
+    on zero k = o .on0
+    on (suc zero) k = o .on1
+    on (suc (suc zero)) k = o .on2
+    on (suc (suc (suc v))) k = absurd (omega arith)
+
+    number : {a b : ℕ} → pos a ≡ pos b → a ≡ b
+    number e = cc
+
+    which : (n : ℕ) → n < 3 → {x y z i : ℕ} (a : ℕ → ℤ) → a 0 ≡ pos x → a 1 ≡ pos y → a 2 ≡ pos z → a n ≡ pos i → (x ≡ i) ⊎ ((y ≡ i) ⊎ (z ≡ i))
+    which zero k a p q s e = inl (number (sym p ∙ e))
+    which (suc zero) k a p q s e = inr (inl (number (sym q ∙ e)))
+    which (suc (suc zero)) k a p q s e = inr (inr (number (sym s ∙ e)))
+    which (suc (suc (suc n))) k a p q s e = absurd (omega arith)
+
+    along-axis : (m a i : ℕ) → ((v : ℕ) → v < 3 → onAxis m (along (vertex t v) a) ≡ true) → cellAlong t a n ≡ pos i → candidateAlong m t a i ≡ true
+    along-axis m a i f e =
+        let x = on-held m _ (f 0 (omega arith)) in
+        let y = on-held m _ (f 1 (omega arith)) in
+        let z = on-held m _ (f 2 (omega arith)) in
+        let u = on-held m _ (f n h) in
+        let is : u .0 ≡ i = number (sym (u .1) ∙ e) in
+        (λ s. leZ (firstOf (x .1 s) (y .1 s) (z .1 s)) (pos i) && ltZ (pos i) (pastOf m (x .1 s) (y .1 s) (z .1 s)))
+        ∙ own-candidate m (x .0) (y .0) (z .0) i (which n h (cellAlong t a) (x .1) (y .1) (z .1) e) (omega (arith, u .2))
