@@ -1,0 +1,95 @@
+-- `mark_vectors::long_case` lends parts of its arrays. Assumes nothing.
+use native.Mathlib.Omega.{arith}
+use lib.ListN.{length-take}
+use borrow.Author.Needs.{needs}
+use Rattle.mark_vectors.proofs.long_case.Statement.{statement}
+use Rattle.mark_vectors.proofs.long_case.Tie as tie
+use Rattle.mark_vectors.proofs.long_case.Reads as reads
+use Rattle.mark_vectors.proofs.long_case.Lts as lts
+use Rattle.mark_vectors.proofs.at_most.Reads as at-most-reads
+use Rattle.mark_vectors.proofs.axes_of.Reads as axes-of-reads
+use Rattle.mark_vectors.proofs.marked.Reads as marked-reads
+use Rattle.mark_vectors.proofs.ones.Reads as ones-reads
+use Rattle.mark_vectors.proofs.placement_of.Reads as placement-of-reads
+use Rattle.mark_vectors.proofs.zeros.Reads as zeros-reads
+use Rattle.replay.proofs.word.Reads as word-reads
+
+-- src/main.rt:152:18
+ones-requires : tie.Need-ones-requires
+ones-requires c κs = search needs
+
+-- src/main.rt:153:21
+zeros-requires : tie.Need-zeros-requires
+zeros-requires c κs = search needs
+
+-- src/main.rt:154:9
+at-most-requires : tie.Need-at-most-requires
+at-most-requires c κs = search needs
+
+-- src/main.rt:155:9
+at-most-requires-2 : tie.Need-at-most-requires-2
+at-most-requires-2 c κs = search needs
+
+-- src/main.rt:156:9
+axes-of-requires : tie.Need-axes-of-requires
+axes-of-requires c κs = search needs
+
+-- src/main.rt:157:9
+placement-of-requires : tie.Need-placement-of-requires
+placement-of-requires c κs = search needs
+
+-- src/main.rt:158:12
+array-share-prefix-points : tie.Need-array-share-prefix-points
+array-share-prefix-points c = search needs
+
+-- src/main.rt:158:12
+slice-aggregate-marked : tie.Need-slice-aggregate-marked
+slice-aggregate-marked c = simp length-take (omega (arith, c .before .before .before .before .at-most .ensures, c .before .before .before .before .before .before .ones .ensures))
+
+-- src/main.rt:158:27
+array-share-prefix-triangles : tie.Need-array-share-prefix-triangles
+array-share-prefix-triangles c = search needs
+
+-- src/main.rt:158:27
+slice-aggregate-marked-2 : tie.Need-slice-aggregate-marked-2
+slice-aggregate-marked-2 c = simp length-take (omega (arith, c .before .before .before .before .at-most2 .ensures, c .before .before .before .before .before .before .zeros .ensures))
+
+-- src/main.rt:158:71
+add-word : tie.Need-add-word
+add-word c = search needs
+
+-- src/main.rt:158:55
+word-requires : tie.Need-word-requires
+word-requires c κs = search needs
+
+-- src/main.rt:158:55
+cast-marked : tie.Need-cast-marked
+cast-marked c = search needs
+
+-- src/main.rt:158:5
+marked-requires : tie.Need-marked-requires
+marked-requires c κs = search needs
+
+-- src/main.rt:149:1
+returns : tie.Need-returns
+returns c = search needs
+
+pub long-case-spec : {M : Type 1} → statement M
+long-case-spec =
+    tie.close
+    (tie.spec
+    ones-requires
+    zeros-requires
+    at-most-requires
+    at-most-requires-2
+    axes-of-requires
+    placement-of-requires
+    array-share-prefix-points
+    slice-aggregate-marked
+    array-share-prefix-triangles
+    slice-aggregate-marked-2
+    add-word
+    word-requires
+    cast-marked
+    marked-requires
+    returns)

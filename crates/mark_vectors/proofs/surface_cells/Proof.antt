@@ -1,0 +1,65 @@
+-- `mark_vectors::surface_cells` stays in the slice and its numbers fit. Assumes nothing.
+use borrow.Author.Needs.{needs}
+use native.Mathlib.Omega.{arith}
+use native.Mathlib.Nat.{mod-lt}
+use Prim.Native.Nat.{_-_, _≤_}
+use lib.Dec.{lit<}
+use lib.ListN.{length}
+use Rattle.mark_vectors.proofs.surface_cells.Statement.{statement}
+use Rattle.mark_vectors.proofs.surface_cells.Tie as tie
+use Rattle.mark_vectors.proofs.surface_cells.Reads as reads
+use Rattle.mark_vectors.proofs.surface_cells.Lts as lts
+use Rattle.mark_vectors.proofs.one_if_surface.Reads as one-if-surface-reads
+
+abbrev Inv-loop : tie.InvT-loop
+Inv-loop labels n₀ i₀ n i = i ≤ length labels
+
+abbrev μ-loop : tie.MeasureT-loop
+μ-loop labels n₀ i₀ n i = length labels - i
+
+-- src/main.rt:78:5
+loop-holds : tie.Need-loop-holds Inv-loop μ-loop
+loop-holds c = omega arith
+
+-- src/main.rt:79:45
+shared-slice-read-one-if-surface : tie.Need-shared-slice-read-one-if-surface Inv-loop μ-loop
+shared-slice-read-one-if-surface c = search needs
+
+-- src/main.rt:79:30
+one-if-surface-requires : tie.Need-one-if-surface-requires Inv-loop μ-loop
+one-if-surface-requires c κs = tt
+
+-- src/main.rt:79:13
+add-n : tie.Need-add-n Inv-loop μ-loop
+add-n c = let h = mod-lt (c .before .before .before .loop .n) {m = 1000000000} (lit< tt) in omega (arith, c .one-if-surface .ensures)
+
+-- src/main.rt:80:9
+add-i : tie.Need-add-i Inv-loop μ-loop
+add-i c = search needs
+
+-- src/main.rt:78:5
+loop-less : tie.Need-loop-less Inv-loop μ-loop
+loop-less c = omega arith
+
+-- src/main.rt:78:5
+loop-again : tie.Need-loop-again Inv-loop μ-loop
+loop-again c = omega arith
+
+-- src/main.rt:75:1
+returns : tie.Need-returns Inv-loop μ-loop
+returns c = tt
+
+pub surface-cells-spec : {M : Type 1} → statement M
+surface-cells-spec =
+    tie.close
+    (tie.spec
+    Inv-loop
+    μ-loop
+    loop-holds
+    shared-slice-read-one-if-surface
+    one-if-surface-requires
+    add-n
+    add-i
+    loop-less
+    loop-again
+    returns)
