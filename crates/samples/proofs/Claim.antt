@@ -1,12 +1,16 @@
 -- The one claim of the table: every row holds, by computation of the definitions that the contracts cite. Assumes nothing.
 use mathlib.Core.Path.{refl}
-use lib.Ieee.{lt, le, sub, mul, div, ofInt}
+use lib.Ieee.{lt, le, eq, sub, mul, div, ofInt}
 use Rattle.numbers.specs.Rounding.{ceilOf, truncOf, nearestOf}
-use Rattle.grid.specs.First.{firstNot}
+use Rattle.grid.specs.First.{firstNot, someBelow}
+use Rattle.grid.specs.Grid.{firstOnes}
 use Rattle.sizing.specs.Points.{bounded}
 use Rattle.sizing.specs.Sizing.{spansTo, natural}
+use Rattle.touch.specs.Touch.{dotZ, edge, cross, reach, apart, someApart, touching}
+use Rattle.mesh.specs.Mesh.{wholeParts, partsAt, onAxis, isCandidate}
+use Rattle.marking.specs.Marked.{hits}
 use Rattle.samples.specs.Table.{All, table}
 
 pub samples : All table
-unfolding firstNot bounded spansTo natural ceilOf truncOf nearestOf lt le sub mul div ofInt
-samples = (refl, (refl, (refl, (refl, ((refl, refl), ((refl, refl), (refl, tt)))))))
+unfolding firstNot someBelow firstOnes bounded spansTo natural ceilOf truncOf nearestOf wholeParts partsAt onAxis isCandidate dotZ edge cross reach apart someApart touching hits lt le eq sub mul div ofInt
+samples = (refl, (refl, (refl, (refl, ((refl, refl), ((refl, refl), (refl, (refl, ((refl, refl), tt)))))))))

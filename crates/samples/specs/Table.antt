@@ -4,6 +4,7 @@ use mathlib.Core.Bool.{false}
 use mathlib.Core.List.{List, [], _∷_}
 use Prim.Native.Nat.{ℕ}
 use lib.IntN.{ℤ, pos, negsuc}
+use lib.ListN.{replicate}
 use lib.Ieee.{Float, fin}
 use Rattle.numbers.specs.declared.Whole.the-variants.{Of}
 use Rattle.numbers.specs.Rounding.{nearestOf, parts, cellOf}
@@ -12,18 +13,21 @@ use Rattle.grid.specs.declared.Cell.{Cell}
 use Rattle.grid.specs.Answers.{Outcome, answers}
 use Rattle.grid.specs.Grid.{num}
 use Rattle.sizing.specs.Sizing.{Laid, bySize, byResolution}
+use Rattle.marking.specs.Marked.{markAnswer, markLabels}
 
 pub data Sample : Type 0 where
   by-size : List Float → Float → Outcome Laid → Sample
   by-resolution : List Float → ℕ → Outcome Laid → Sample
   rounding : Float → ℤ → ℤ → Sample
   numbered : Axes → Cell → ℕ → Sample
+  marking : List Float → List ℕ → Laid → List ℕ → List ℕ → Sample
 
 abbrev pub Holds : Sample → Type 0
 Holds (by-size ps size o) = bySize ps size ≡ o
 Holds (by-resolution ps r o) = byResolution ps r ≡ o
 Holds (rounding t q cell) = (nearestOf parts t ≡ Of q) × (cellOf q ≡ cell)
 Holds (numbered r c n) = num r c ≡ n
+Holds (marking ps ts l before after) = (markAnswer ps ts (l .axes) (l .placement) before ≡ answers tt) × (markLabels ps ts (l .axes) (l .placement) before ≡ after)
 
 abbrev pub All : List Sample → Type 0
 All [] = Unit
@@ -53,13 +57,24 @@ corner x y z = f 0 ∷ f 0 ∷ f 0 ∷ x ∷ y ∷ z ∷ []
 abbrev pub axes : ℕ → ℕ → ℕ → Axes
 axes a b c = record { r0 = a; r1 = b; r2 = c }
 
+abbrev pub lies : Axes → Float → Float → Laid
+lies a scale reciprocal = record { axes = a; placement = record { x = f 0; y = f 0; z = f 0; scale = scale; reciprocal = reciprocal } }
+
 abbrev pub laid : Axes → Float → Float → Outcome Laid
-laid a scale reciprocal = answers (record { axes = a; placement = record { x = f 0; y = f 0; z = f 0; scale = scale; reciprocal = reciprocal } })
+laid a scale reciprocal = answers (lies a scale reciprocal)
+
+-- the points (0, 0, 0), (2, 2, 2) and (0.5, 0, 0); the triangles (2, 2, 2) and (0, 0, 0)
+abbrev pub threePoints : List Float
+threePoints = f 0 ∷ f 0 ∷ f 0 ∷ two ∷ two ∷ two ∷ part 1 0 ∷ f 0 ∷ f 0 ∷ []
+
+abbrev pub twoTriangles : List ℕ
+twoTriangles = 2 ∷ 2 ∷ 2 ∷ 0 ∷ 0 ∷ 0 ∷ []
 
 -- "Extent 30: size 1.5 gives 21 cells, size 15 gives 3. Extent 0 gives 3." 1 / 1.5 is 11184811 / 2 ^ 24 and 1 / 15 is 8947849 / 2 ^ 27, each rounded once
 -- "R = 10, d = (4, 2, 1): axes 10, 7, 4, scale 4/9 rounded. R = 4, d = (2, 2, 1): 4, 6, 4." 4 / 9 is 14913081 / 2 ^ 25, of which 1 over is 9 / 4; 2 / 3 is 11184811 / 2 ^ 24
 -- "t = 0.25 is q 64, cell 0. t = 0.5 is q 128, cell 1."
 -- "Axes 3, 3, 3: cell (1, 2, 0) is number 7."
+-- "Points (0,0,0), (2,2,2), (0.5,0,0); triangles (2,2,2), (0,0,0); size 1": of the list that 01 gives, the cells that are surface, (0,0,0) and (1,0,0), which have the numbers 0 and 1
 abbrev pub table : List Sample
 table =
     by-size (corner thirty (f 0) (f 0)) (part 3 0) (laid (axes 21 3 3) (part 3 0) (part 11184811 23))
@@ -69,4 +84,6 @@ table =
     ∷ rounding (part 1 1) (pos 64) (pos 0)
     ∷ rounding (part 1 0) (pos 128) (pos 1)
     ∷ numbered (axes 3 3 3) (record { i = 1; j = 2; k = 0 }) 7
+    ∷ by-size threePoints (f 1) (laid (axes 3 3 3) (f 1) (f 1))
+    ∷ marking threePoints twoTriangles (lies (axes 3 3 3) (f 1) (f 1)) (replicate 27 7) (8 ∷ 8 ∷ replicate 25 0)
     ∷ []

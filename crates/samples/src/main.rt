@@ -2,7 +2,19 @@
 // from 01's text. Axes come before the bits of the origin, the scale and the reciprocal.
 use grid::Axes;
 use grid::Cell;
+use grid::Checked;
+use grid::Placement;
+use marking::Marking;
 use numbers::Whole;
+
+fn show(labels: &[u8]) {
+    let mut i = 0usize;
+    while i < labels.len() {
+        replay::number(labels[i] as u64);
+        i += 1;
+    }
+    replay::text(b"\n");
+}
 
 // A grid over the origin and one corner.
 fn by_size(x: f32, y: f32, z: f32, size: f32) {
@@ -28,6 +40,30 @@ fn rounding(t: f32) {
     replay::text(b"\n");
 }
 
+// The surface cells of three points and two triangles, each a single point: the labels in the order of
+// cell numbers.
+fn marks() {
+    let points: [f32; 9] = [0.0, 0.0, 0.0, 2.0, 2.0, 2.0, 0.5, 0.0, 0.0];
+    let triangles: [u32; 6] = [2, 2, 2, 0, 0, 0];
+    let r = Axes {
+        r0: 3,
+        r1: 3,
+        r2: 3,
+    };
+    let at = Placement {
+        x: 0.0,
+        y: 0.0,
+        z: 0.0,
+        scale: 1.0,
+        reciprocal: 1.0,
+    };
+    let mut labels = [7u8; 27];
+    match marking::mark(&points, &triangles, r, at, &mut labels) {
+        Marking::Refused(f) => replay::checked(Checked::Fault(f)),
+        Marking::Marked => show(&labels),
+    }
+}
+
 fn main() {
     by_size(30.0, 0.0, 0.0, 1.5);
     by_size(30.0, 0.0, 0.0, 15.0);
@@ -46,4 +82,5 @@ fn main() {
     let c = Cell { i: 1, j: 2, k: 0 };
     replay::number(grid::number(r, c) as u64);
     replay::text(b"\n");
+    marks();
 }

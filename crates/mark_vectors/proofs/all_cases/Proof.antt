@@ -14,27 +14,21 @@ Inv-loop s at₀ at = at ≤ length s
 abbrev μ-loop : tie.MeasureT-loop
 μ-loop s at₀ at = length s - at
 
--- src/main.rt:195:5
 loop-holds : tie.Need-loop-holds Inv-loop μ-loop
 loop-holds c = omega arith
 
--- src/main.rt:195:11
 add-loop : tie.Need-add-loop Inv-loop μ-loop
 add-loop c = omega (arith, c .before .before .pre)
 
--- src/main.rt:196:9
 one-case-requires : tie.Need-one-case-requires Inv-loop μ-loop
 one-case-requires c κs = c .loop-test .taken
 
--- src/main.rt:195:5
 loop-less : tie.Need-loop-less Inv-loop μ-loop
 loop-less c = omega (arith, c .one-case .ensures, c .before .loop-test .taken)
 
--- src/main.rt:195:5
 loop-again : tie.Need-loop-again Inv-loop μ-loop
 loop-again c = c .one-case .ensures .1
 
--- src/main.rt:191:1
 returns : tie.Need-returns Inv-loop μ-loop
 returns c = tt
 

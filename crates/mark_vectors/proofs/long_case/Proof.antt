@@ -14,63 +14,48 @@ use Rattle.mark_vectors.proofs.placement_of.Reads as placement-of-reads
 use Rattle.mark_vectors.proofs.zeros.Reads as zeros-reads
 use Rattle.replay.proofs.word.Reads as word-reads
 
--- src/main.rt:152:18
 ones-requires : tie.Need-ones-requires
 ones-requires c κs = search needs
 
--- src/main.rt:153:21
 zeros-requires : tie.Need-zeros-requires
 zeros-requires c κs = search needs
 
--- src/main.rt:154:9
 at-most-requires : tie.Need-at-most-requires
 at-most-requires c κs = search needs
 
--- src/main.rt:155:9
 at-most-requires-2 : tie.Need-at-most-requires-2
 at-most-requires-2 c κs = search needs
 
--- src/main.rt:156:9
 axes-of-requires : tie.Need-axes-of-requires
 axes-of-requires c κs = search needs
 
--- src/main.rt:157:9
 placement-of-requires : tie.Need-placement-of-requires
 placement-of-requires c κs = search needs
 
--- src/main.rt:158:12
 array-share-prefix-points : tie.Need-array-share-prefix-points
 array-share-prefix-points c = search needs
 
--- src/main.rt:158:12
 slice-aggregate-marked : tie.Need-slice-aggregate-marked
 slice-aggregate-marked c = simp length-take (omega (arith, c .before .before .before .before .at-most .ensures, c .before .before .before .before .before .before .ones .ensures))
 
--- src/main.rt:158:27
 array-share-prefix-triangles : tie.Need-array-share-prefix-triangles
 array-share-prefix-triangles c = search needs
 
--- src/main.rt:158:27
 slice-aggregate-marked-2 : tie.Need-slice-aggregate-marked-2
 slice-aggregate-marked-2 c = simp length-take (omega (arith, c .before .before .before .before .at-most2 .ensures, c .before .before .before .before .before .before .zeros .ensures))
 
--- src/main.rt:158:71
 add-word : tie.Need-add-word
 add-word c = search needs
 
--- src/main.rt:158:55
 word-requires : tie.Need-word-requires
 word-requires c κs = search needs
 
--- src/main.rt:158:55
 cast-marked : tie.Need-cast-marked
 cast-marked c = search needs
 
--- src/main.rt:158:5
 marked-requires : tie.Need-marked-requires
 marked-requires c κs = search needs
 
--- src/main.rt:149:1
 returns : tie.Need-returns
 returns c = search needs
 

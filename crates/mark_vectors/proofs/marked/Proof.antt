@@ -10,27 +10,21 @@ use Rattle.mark_vectors.proofs.at_most.Reads as at-most-reads
 use Rattle.mark_vectors.proofs.mark_and_report.Reads as mark-and-report-reads
 use Rattle.mark_vectors.proofs.pattern.Reads as pattern-reads
 
--- src/main.rt:118:22
 pattern-requires : tie.Need-pattern-requires
 pattern-requires c κs = search needs
 
--- src/main.rt:119:9
 at-most-requires : tie.Need-at-most-requires
 at-most-requires c κs = search needs
 
--- src/main.rt:120:47
 array-borrow-prefix-labels : tie.Need-array-borrow-prefix-labels
 array-borrow-prefix-labels c = search needs
 
--- src/main.rt:120:47
 slice-aggregate-mark-and-report : tie.Need-slice-aggregate-mark-and-report
 slice-aggregate-mark-and-report c = simp length-take (omega (arith, c .before .at-most .ensures, c .before .before .pattern .ensures))
 
--- src/main.rt:120:5
 mark-and-report-requires : tie.Need-mark-and-report-requires
 mark-and-report-requires c κs = search needs
 
--- src/main.rt:117:1
 returns : tie.Need-returns
 returns c = search needs
 

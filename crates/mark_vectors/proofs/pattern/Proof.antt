@@ -16,35 +16,27 @@ Inv-loop out₀ i₀ out i = (i ≤ 65536) × (65536 ≡ length out)
 abbrev μ-loop : tie.MeasureT-loop
 μ-loop out₀ i₀ out i = 65536 - i
 
--- src/main.rt:62:5
 loop-holds : tie.Need-loop-holds Inv-loop μ-loop
 loop-holds c = (omega arith, refl)
 
--- src/main.rt:63:19
 add-out : tie.Need-add-out Inv-loop μ-loop
 add-out c = let h = mod-lt (c .before .loop .i) {m = 5} (lit< tt) in omega arith
 
--- src/main.rt:63:18
 cast-out : tie.Need-cast-out Inv-loop μ-loop
 cast-out c = let h = mod-lt (c .before .loop .i) {m = 5} (lit< tt) in omega arith
 
--- src/main.rt:63:9
 array-write-out : tie.Need-array-write-out Inv-loop μ-loop
 array-write-out c = omega arith
 
--- src/main.rt:64:9
 add-i : tie.Need-add-i Inv-loop μ-loop
 add-i c = omega arith
 
--- src/main.rt:62:5
 loop-less : tie.Need-loop-less Inv-loop μ-loop
 loop-less c = omega arith
 
--- src/main.rt:62:5
 loop-again : tie.Need-loop-again Inv-loop μ-loop
 loop-again c = (omega arith, c .before .loop .inv .1 ∙ (simp length-set))
 
--- src/main.rt:57:1
 returns : tie.Need-returns Inv-loop μ-loop
 returns c = c .before .loop .inv .1
 

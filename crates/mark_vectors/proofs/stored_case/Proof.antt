@@ -13,67 +13,51 @@ use Rattle.mark_vectors.proofs.placement_of.Reads as placement-of-reads
 use Rattle.mark_vectors.proofs.words.Reads as words-reads
 use Rattle.replay.proofs.word.Reads as word-reads
 
--- src/main.rt:164:16
 add-from : tie.Need-add-from
 add-from c = search needs
 
--- src/main.rt:165:18
 floats-requires : tie.Need-floats-requires
 floats-requires c κs = search needs
 
--- src/main.rt:166:37
 mul-words : tie.Need-mul-words
 mul-words c = search needs
 
--- src/main.rt:166:30
 add-words : tie.Need-add-words
 add-words c = search needs
 
--- src/main.rt:166:21
 words-requires : tie.Need-words-requires
 words-requires c κs = search needs
 
--- src/main.rt:167:9
 axes-of-requires : tie.Need-axes-of-requires
 axes-of-requires c κs = search needs
 
--- src/main.rt:168:9
 placement-of-requires : tie.Need-placement-of-requires
 placement-of-requires c κs = search needs
 
--- src/main.rt:169:12
 array-share-prefix-points : tie.Need-array-share-prefix-points
 array-share-prefix-points c = search needs
 
--- src/main.rt:169:12
 slice-aggregate-marked : tie.Need-slice-aggregate-marked
 slice-aggregate-marked c = simp length-take (omega (arith, c .before .before .before .before .before .before .pre .1, c .before .before .before .before .floats .ensures))
 
--- src/main.rt:169:26
 array-share-prefix-triangles : tie.Need-array-share-prefix-triangles
 array-share-prefix-triangles c = search needs
 
--- src/main.rt:169:26
 slice-aggregate-marked-2 : tie.Need-slice-aggregate-marked-2
 slice-aggregate-marked-2 c = simp length-take (omega (arith, c .before .before .before .before .before .before .before .pre .2, c .before .before .before .before .words .ensures))
 
--- src/main.rt:169:69
 add-word : tie.Need-add-word
 add-word c = search needs
 
--- src/main.rt:169:53
 word-requires : tie.Need-word-requires
 word-requires c κs = search needs
 
--- src/main.rt:169:53
 cast-marked : tie.Need-cast-marked
 cast-marked c = search needs
 
--- src/main.rt:169:5
 marked-requires : tie.Need-marked-requires
 marked-requires c κs = search needs
 
--- src/main.rt:161:1
 returns : tie.Need-returns
 returns c = search needs
 

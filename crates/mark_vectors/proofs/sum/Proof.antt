@@ -16,43 +16,33 @@ Inv-loop labels s₀ i₀ s i = i ≤ length labels
 abbrev μ-loop : tie.MeasureT-loop
 μ-loop labels s₀ i₀ s i = length labels - i
 
--- src/main.rt:85:5
 loop-holds : tie.Need-loop-holds Inv-loop μ-loop
 loop-holds c = omega arith
 
--- src/main.rt:86:14
 mul-s : tie.Need-mul-s Inv-loop μ-loop
 mul-s c = let h = mod-lt (c .before .loop .s) {m = 4294967291} (lit< tt) in omega arith
 
--- src/main.rt:86:36
 shared-slice-read-s : tie.Need-shared-slice-read-s Inv-loop μ-loop
 shared-slice-read-s c = search needs
 
--- src/main.rt:86:36
 cast-s : tie.Need-cast-s Inv-loop μ-loop
 cast-s c = omega (arith, c .shared-slice-known .given (c .before .before .loop .i))
 
--- src/main.rt:86:14
 add-s : tie.Need-add-s Inv-loop μ-loop
 add-s c = let h = mod-lt (c .before .before .loop .s) {m = 4294967291} (lit< tt) in omega (arith, c .shared-slice-known .given (c .before .before .loop .i))
 
--- src/main.rt:86:14
 add-s-2 : tie.Need-add-s-2 Inv-loop μ-loop
 add-s-2 c = let h = mod-lt (c .before .before .loop .s) {m = 4294967291} (lit< tt) in omega (arith, c .shared-slice-known .given (c .before .before .loop .i))
 
--- src/main.rt:87:9
 add-i : tie.Need-add-i Inv-loop μ-loop
 add-i c = search needs
 
--- src/main.rt:85:5
 loop-less : tie.Need-loop-less Inv-loop μ-loop
 loop-less c = omega arith
 
--- src/main.rt:85:5
 loop-again : tie.Need-loop-again Inv-loop μ-loop
 loop-again c = omega arith
 
--- src/main.rt:82:1
 returns : tie.Need-returns Inv-loop μ-loop
 returns c = tt
 

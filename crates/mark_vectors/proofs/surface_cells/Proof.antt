@@ -17,35 +17,27 @@ Inv-loop labels n₀ i₀ n i = i ≤ length labels
 abbrev μ-loop : tie.MeasureT-loop
 μ-loop labels n₀ i₀ n i = length labels - i
 
--- src/main.rt:78:5
 loop-holds : tie.Need-loop-holds Inv-loop μ-loop
 loop-holds c = omega arith
 
--- src/main.rt:79:45
 shared-slice-read-one-if-surface : tie.Need-shared-slice-read-one-if-surface Inv-loop μ-loop
 shared-slice-read-one-if-surface c = search needs
 
--- src/main.rt:79:30
 one-if-surface-requires : tie.Need-one-if-surface-requires Inv-loop μ-loop
 one-if-surface-requires c κs = tt
 
--- src/main.rt:79:13
 add-n : tie.Need-add-n Inv-loop μ-loop
 add-n c = let h = mod-lt (c .before .before .before .loop .n) {m = 1000000000} (lit< tt) in omega (arith, c .one-if-surface .ensures)
 
--- src/main.rt:80:9
 add-i : tie.Need-add-i Inv-loop μ-loop
 add-i c = search needs
 
--- src/main.rt:78:5
 loop-less : tie.Need-loop-less Inv-loop μ-loop
 loop-less c = omega arith
 
--- src/main.rt:78:5
 loop-again : tie.Need-loop-again Inv-loop μ-loop
 loop-again c = omega arith
 
--- src/main.rt:75:1
 returns : tie.Need-returns Inv-loop μ-loop
 returns c = tt
 

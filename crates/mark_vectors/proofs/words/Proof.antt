@@ -15,43 +15,33 @@ Inv-loop s at n out₀ i₀ out i = (i ≤ n) × (192 ≡ length out)
 abbrev μ-loop : tie.MeasureT-loop
 μ-loop s at n out₀ i₀ out i = n - i
 
--- src/main.rt:37:5
 loop-holds : tie.Need-loop-holds Inv-loop μ-loop
 loop-holds c = (omega arith, refl)
 
--- src/main.rt:38:39
 mul-word : tie.Need-mul-word Inv-loop μ-loop
 mul-word c = omega (arith, c .before .before .before .pre)
 
--- src/main.rt:38:34
 add-word : tie.Need-add-word Inv-loop μ-loop
 add-word c = omega (arith, c .before .before .before .pre)
 
--- src/main.rt:38:18
 word-requires : tie.Need-word-requires Inv-loop μ-loop
 word-requires c κs = omega (arith, c .before .before .before .pre)
 
--- src/main.rt:38:9
 mul-out : tie.Need-mul-out Inv-loop μ-loop
 mul-out c = omega (arith, c .before .before .before .before .pre)
 
--- src/main.rt:38:9
 array-write-out : tie.Need-array-write-out Inv-loop μ-loop
 array-write-out c = omega (arith, c .before .before .before .before .pre)
 
--- src/main.rt:39:9
 add-i : tie.Need-add-i Inv-loop μ-loop
 add-i c = omega (arith, c .before .before .before .before .pre)
 
--- src/main.rt:37:5
 loop-less : tie.Need-loop-less Inv-loop μ-loop
 loop-less c = omega arith
 
--- src/main.rt:37:5
 loop-again : tie.Need-loop-again Inv-loop μ-loop
 loop-again c = (omega arith, c .before .before .loop .inv .1 ∙ (simp length-set))
 
--- src/main.rt:31:1
 returns : tie.Need-returns Inv-loop μ-loop
 returns c = c .before .loop .inv .1
 
