@@ -164,11 +164,10 @@ fn input_fault(ps: &[f32], ts: &[u32], r: Axes, at: Placement, len: usize) -> Ch
     let missing = missing_fault(ts, ps.len() / 3);
     let lent = lent_fault(at);
     let labels = grid::grid_fault(r, len);
-    let last = grid::and_then(lent, labels);
-    grid::and_then(
-        lengths,
-        grid::and_then(numbers, grid::and_then(missing, last)),
-    )
+    let from_5 = grid::and_then(lent, labels);
+    let from_4 = grid::and_then(missing, from_5);
+    let from_3 = grid::and_then(numbers, from_4);
+    grid::and_then(lengths, from_3)
 }
 
 // The place of the first corner that falls on no cell, or the length.
