@@ -3,12 +3,12 @@ use mathlib.Core.Bool.{Bool, true, false, not, cond, _&&_, _||_, true≢false}
 use mathlib.Core.Logic.{_↔_}
 use mathlib.Core.Path.{_≡_, refl, sym, ap, subst, _∙_}
 use mathlib.Core.List.{List, [], _∷_}
-use Prim.Native.Nat.{ℕ, zero, suc, _+_, _*_, _/_, _%_, _≤_, _<_}
+use Prim.Native.Nat.{ℕ, zero, suc, _+_, _/_, _%_, _≤_, _<_}
 use native.Mathlib.Nat.{div-add-mod}
 use native.Mathlib.Omega.{arith}
 use lib.Dec.{T, eqb, ltb}
 use lib.IntN.{ℤ, pos}
-use lib.ListN.{length, getD, replicate, getD-replicate, length-replicate}
+use lib.ListN.{length, replicate, getD-replicate, length-replicate}
 use lib.Ieee.{Float, fin, binary32, le, eq, div}
 use borrow.Author.Tests.{eqb-true, ltb-false}
 use Rattle.grid.specs.declared.Axes.{Axes}
@@ -17,9 +17,9 @@ use Rattle.grid.specs.declared.Placement.{Placement}
 use Rattle.grid.specs.declared.Checked.{Checked}
 use Rattle.grid.specs.declared.Checked.the-variants.{Fine, Fault}
 use Rattle.grid.specs.Answers.{Outcome, answers, refuses, Finds, Gives, isOneOf, unless, lentAfter}
-use Rattle.grid.specs.First.{firstNot, someBelow}
+use Rattle.grid.specs.First.{firstNot}
 use Rattle.grid.specs.Checks.{firstFault, badAxis, axesFault}
-use Rattle.grid.specs.Grid.{Sound, InGrid, cells, num, at, labelsBy}
+use Rattle.grid.specs.Grid.{Sound, InGrid, cells, num, at}
 use Rattle.grid.proofs.First.{some-below}
 use Rattle.grid.proofs.Cells.{num-lt, labels-length, labels-one, labels-at}
 use Rattle.grid.proofs.Checks.{passed, finds-if, finds-then, gives-unless}
@@ -35,7 +35,7 @@ use Rattle.mesh.proofs.Laws.{both-l, both-r, mesh-fine, on-cells, IsCellOf, own
 use Rattle.marking.specs.declared.Marking.{Marking}
 use Rattle.marking.specs.declared.Marking.the-variants.{Marked, Refused}
 use Rattle.marking.specs.Marked.{outcome, hits, isSurface, markOf, markedLabels, markAnswer, markLabels}
-use Rattle.marking.specs.Painted.{Painted, Ready, Sheet}
+use Rattle.marking.specs.Painted.{Painted, Ready}
 
 -- ---- what the loops need and leave
 

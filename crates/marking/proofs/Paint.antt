@@ -1,19 +1,19 @@
 -- Laws of specs/Painted.antt: painting nothing, a cell, one set and then another; and a walk along an axis, place after place. Assumes nothing.
-use mathlib.Core.Bool.{Bool, true, false, cond, _&&_, _||_, true≢false}
+use mathlib.Core.Bool.{Bool, true, false, cond, _&&_, _||_}
 use mathlib.Core.Logic.{_⊎_, inl, inr, ⊎-elim}
 use mathlib.Core.Path.{_≡_, refl, sym, ap, _∙_}
 use mathlib.Core.List.{List}
-use Prim.Native.Nat.{ℕ, _+_, _*_, _≤_, _<_}
+use Prim.Native.Nat.{ℕ, _+_, _≤_, _<_}
 use native.Mathlib.Numerals.{add-one}
 use native.Mathlib.Omega.{arith}
 use lib.Dec.{leb, ltb}
 use lib.IntN.{ℤ}
-use lib.ListN.{length, set, length-set}
+use lib.ListN.{set, length-set}
 use borrow.Author.Tests.{le-leb, lt-leb, lt-ltb, le-ltb, leb-true, ltb-true}
 use Rattle.grid.specs.declared.Axes.{Axes}
 use Rattle.grid.specs.declared.Cell.{Cell}
 use Rattle.grid.specs.First.{someBelow}
-use Rattle.grid.specs.Grid.{Sound, InGrid, num, cells, at}
+use Rattle.grid.specs.Grid.{InGrid, num, at}
 use Rattle.grid.proofs.First.{le-or-lt}
 use Rattle.grid.proofs.Cells.{cell-path, stored}
 use Rattle.touch.specs.declared.Slabs.{Slabs}
@@ -25,7 +25,7 @@ use Rattle.mesh.specs.declared.Block.{Block}
 use Rattle.mesh.specs.Mesh.{isCandidate}
 use Rattle.mesh.specs.Ranges.{BlockOf, between, holds}
 use Rattle.mesh.proofs.Laws.{both-l, both-r, block-test}
-use Rattle.marking.specs.Painted.{Painted, leftIn, one, rowOf, layerOf, Sheet}
+use Rattle.marking.specs.Painted.{Painted, leftIn, one, rowOf, Sheet}
 
 -- ---- painting
 

@@ -2,7 +2,7 @@
 use mathlib.Core.Bool.{Bool, cond, _&&_}
 use mathlib.Core.Path.{_≡_}
 use mathlib.Core.List.{List}
-use Prim.Native.Nat.{ℕ, _+_, _≤_, _<_}
+use Prim.Native.Nat.{ℕ, _+_, _≤_}
 use lib.ListN.{length}
 use lib.Ieee.{Float}
 use Rattle.grid.specs.declared.Axes.{Axes}
@@ -10,7 +10,7 @@ use Rattle.grid.specs.declared.Cell.{Cell}
 use Rattle.grid.specs.declared.Placement.{Placement}
 use Rattle.grid.specs.Grid.{Sound, InGrid, cells, at}
 use Rattle.touch.specs.declared.Slabs.{Slabs}
-use Rattle.touch.specs.Slabs.{Mild, keptAll}
+use Rattle.touch.specs.Slabs.{keptAll}
 use Rattle.mesh.specs.declared.Ends.{Ends}
 use Rattle.mesh.specs.declared.Block.{Block}
 use Rattle.mesh.specs.Ranges.{Named, OnGrid, holds}

@@ -1,13 +1,13 @@
 -- Laws of the specs of `mesh`: what a vertex that falls on a cell is, what the checks say of a mesh, and a block's cells. Assumes nothing.
-use mathlib.Core.Path.{_≡_, refl, sym, ap, _∙_, subst}
+use mathlib.Core.Path.{_≡_, refl, sym, ap, _∙_}
 use mathlib.Core.Bool.{Bool, true, false, _&&_, cond, true≢false}
-use mathlib.Core.Logic.{_↔_, _⊎_, inl, inr, ⊎-elim}
-use mathlib.Core.List.{List, [], _∷_}
+use mathlib.Core.Logic.{_⊎_, inl, inr, ⊎-elim}
+use mathlib.Core.List.{List}
 use Prim.Native.Nat.{ℕ, zero, suc, _+_, _*_, _/_, _≤_, _<_}
-use native.Mathlib.Nat.{le-trans, le-refl, div-add-mod}
+use native.Mathlib.Nat.{le-refl, div-add-mod}
 use native.Mathlib.Omega.{arith}
-use lib.Dec.{T, ltb, leb, ltb→lt, lit<, lit≤}
-use lib.IntN.{ℤ, pos, negsuc, natAbs, _+ℤ_, _-ℤ_, -ℤ-+ℤ-cancel}
+use lib.Dec.{ltb}
+use lib.IntN.{ℤ, pos, negsuc, _+ℤ_, _-ℤ_, -ℤ-+ℤ-cancel}
 use lib.Signed.{ltZ, leZ}
 use lib.ListN.{length, getD}
 use lib.Ieee.{Float, fin, binary32, ofBits, sub, mul, div, le, eq}
@@ -22,7 +22,7 @@ use Rattle.grid.specs.declared.Checked.the-variants.{Fine}
 use Rattle.grid.specs.Grid.{Axis, Sound, InGrid, cells}
 use Rattle.grid.specs.Checks.{axesFault}
 use Rattle.grid.proofs.Checks.{both-fine, axes-fine, buffer-fine, first-fine}
-use Rattle.ints.specs.Bound.{In, Each, Every, arg, in-add, in-eq, in3, every3}
+use Rattle.ints.specs.Bound.{In, Each, arg, in-add, in-eq, in3, every3}
 use Rattle.ints.specs.Order.{lesser, greater, lt-lesser}
 use Rattle.ints.specs.Parts.{eq-sub, pos-sub}
 use Rattle.numbers.specs.declared.Whole.{Whole}

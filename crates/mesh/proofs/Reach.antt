@@ -5,7 +5,7 @@ use Prim.Native.Nat.{ℕ, _+_, _-_, _*_, _^_, _≤_, _<_}
 use native.Mathlib.Nat.{le-trans, le-of-eq, mul-one, one-mul, mul-comm, mul-assoc, mul-pos, mul-le-mul, mul-le-mul-right, mul-mul-mul-comm}
 use native.Mathlib.Omega.{arith}
 use lib.Dec.{T, ltb, eqb, ltb→lt, eqb→eq, lit<}
-use lib.IntN.{ℤ, pos, negsuc}
+use lib.IntN.{ℤ, pos}
 use lib.Pow.{pow-pos, pow-add, pow-lt}
 use lib.Ieee.{Float, nan, inf, fin, binary32, up, down, unlike, round, sum, neg, sub, mul, div, le, eq}
 use lib.Ieee.Fits.{up-pos, down-pos, and-l}

@@ -1,5 +1,5 @@
 -- 01, Sizing and placement and Marking: a vertex on the grid, a triangle, its candidates. Points are f32 triples, triangles u32 triples, one number after the other. Definitions only.
-use mathlib.Core.Bool.{Bool, false, _&&_}
+use mathlib.Core.Bool.{Bool, _&&_}
 use mathlib.Core.List.{List, [], _∷_}
 use Prim.Native.Nat.{ℕ, _+_, _*_, _/_}
 use lib.IntN.{ℤ, pos, negℤ, _+ℤ_, _-ℤ_}

@@ -2,10 +2,10 @@
 // cell's side, a triangle's vertices and its candidates.
 ghost use mathlib.Core.Path.{_≡_};
 ghost use mathlib.Core.Bool.{true};
-ghost use Prim.Native.Nat.{_+_, _*_, _/_, _<_, _≤_};
+ghost use Prim.Native.Nat.{_+_, _*_, _/_, _<_};
 ghost use lib.Dec.{ltb};
 ghost use lib.IntN.{pos};
-ghost use lib.ListN.{length, getD};
+ghost use lib.ListN.{length};
 ghost use Rattle.grid.specs.Answers.{faultIf};
 ghost use Rattle.grid.specs.declared.Checked.the-variants.{Fine};
 ghost use Rattle.grid.specs.First.{firstNot};

@@ -82,7 +82,7 @@ pub record Answered (ps : List Float) (scale : Float) (l : Laid) : Type 0 where
   pub reciprocal-is : l .placement .reciprocal ≡ div binary32 (fin false 1 (pos 0)) (l .placement .scale)
 
 module _ (ps : List Float) (points-fine : pointsFault ps ≡ Fine) (scale : Float) (a : Axes) (l : Laid) where
-  is-laid : gridOf a (placedAt (spansOf ps) scale) ≡ answers l → Sound a × (record { axes = a; placement = placedAt (spansOf ps) scale } ≡ l)
+  pub is-laid : gridOf a (placedAt (spansOf ps) scale) ≡ answers l → Sound a × (record { axes = a; placement = placedAt (spansOf ps) scale } ≡ l)
   is-laid h =
       let w = answered (axesFault a) (answers (record { axes = a; placement = placedAt (spansOf ps) scale })) l h in
       (axes-fine a .0 (w .0), same (record { axes = a; placement = placedAt (spansOf ps) scale }) l (w .1))
@@ -168,7 +168,7 @@ module _ (dx dy dz : Float) (p : T (finite dx)) (q : T (finite dy)) (r : T (fini
       go false false h k = (third dx dy dz p q r h k, third dy dx dz q p r k h, le-self dz r)
 
 -- what holds of each extent holds of the main axis's
-of-main : (P : Float → Type 0) (m : ℕ) (dx dy dz : Float) → P dx → P dy → P dz → P (extentAt m dx dy dz)
+pub of-main : (P : Float → Type 0) (m : ℕ) (dx dy dz : Float) → P dx → P dy → P dz → P (extentAt m dx dy dz)
 of-main P m dx dy dz x y z = go (eqb m 0) (eqb m 1)
   where
     go : (t u : Bool) → P (cond t dx (cond u dy dz))
@@ -178,14 +178,14 @@ of-main P m dx dy dz x y z = go (eqb m 0) (eqb m 1)
 
 -- ---- by resolution no axis is at fault
 
-extent-finite : {d : Float} → Extent d → T (finite d)
+pub extent-finite : {d : Float} → Extent d → T (finite d)
 extent-finite {d} e = subst (λ (x : Float). T (finite x)) (sym (e .is)) tt
 
 module _ (ps : List Float) (f : pointsFault ps ≡ Fine) where
   abbrev s : Spans
   s = spansOf ps
 
-  extents : Extent (extent (s .x)) × Extent (extent (s .y)) × Extent (extent (s .z))
+  pub extents : Extent (extent (s .x)) × Extent (extent (s .y)) × Extent (extent (s .z))
   extents =
       let x = x-spanned ps f in
       let y = y-spanned ps f in

@@ -1,26 +1,23 @@
 -- Laws of specs/Slabs.antt: the range of each number, and that the cells that thirteen slabs leave are those that the triangle touches. Assumes nothing.
-use mathlib.Core.Path.{_≡_, refl, sym, ap, _∙_, subst}
+use mathlib.Core.Path.{_≡_, refl, sym, ap, _∙_}
 use mathlib.Core.List.{List, [], _∷_, _++_}
 use mathlib.Core.Bool.{Bool, true, false, not, cond, _&&_, _||_, and-assoc}
 use Prim.Native.Nat.{ℕ, _<_, _^_}
 use native.Mathlib.Nat.{lt-trans}
 use native.Mathlib.Omega.{arith}
 use lib.Dec.{T, ltb, leb, lit<}
-use lib.IntN.{ℤ, one, pos, negℤ, subℕ, natAbs, _+ℤ_, _-ℤ_, _*ℤ_, +ℤ-idl, +ℤ-idr, *ℤ-one, *ℤ-zero, *ℤ-comm}
+use lib.IntN.{ℤ, one, pos, negℤ, _+ℤ_, _-ℤ_, _*ℤ_, +ℤ-idl, +ℤ-idr, *ℤ-one, *ℤ-zero, *ℤ-comm}
 use lib.Signed.{ltZ, leZ}
 use mir.Syntax.{w64}
 use mir.Val.{toZ, ofZ}
 use Rattle.grid.specs.declared.Cell.{Cell}
 use Rattle.numbers.specs.Rounding.{parts, half}
-use Rattle.ints.specs.Bound.{In, Val, Each, arg, got, v-in, in-add, in-sub, in-mul, in-abs, in-lit, in-up, in-eq, in3, every3, cons3}
+use Rattle.ints.specs.Bound.{In, Val, Each, arg, got, v-in, in-add, in-sub, in-mul, in-abs, in-lit, in-up, in-eq, in3, cons3}
 use Rattle.ints.specs.Casts.{of-unsigned}
 use Rattle.ints.specs.Order.{lesser, greater, le-not, lt-lesser, lt-greater, lt-less, lt-more}
 use Rattle.ints.specs.Ring.{ap3, mul-assoc}
-use Rattle.touch.specs.declared.Slab.{Slab}
-use Rattle.touch.specs.declared.Three.{Three}
-use Rattle.touch.specs.declared.Slabs.{Slabs}
-use Rattle.touch.specs.Touch.{along, vertex, centre, dotZ, reach, edge, cross, axisX, axisY, axisZ, axes, edgeOf, normal, withAxes, directions, allAbove, allBelow, apart, someApart, touching}
-use Rattle.touch.specs.Slabs.{slabOf, threeOf, productsOf, slabsOf, kept, keptThree, keptAt, keptAll, Corner, Corners, Far, Dir, Gentle, Gentles, Mild, Beside, Near}
+use Rattle.touch.specs.Touch.{along, vertex, centre, dotZ, reach, edge, cross, axisX, axisY, axisZ, axes, edgeOf, normal, withAxes, allAbove, allBelow, apart, someApart, touching}
+use Rattle.touch.specs.Slabs.{slabOf, threeOf, productsOf, slabsOf, kept, keptThree, keptAll, Corner, Corners, Far, Dir, Gentle, Gentles, Mild, Beside, Near}
 
 -- ---- ranges
 

@@ -1,9 +1,9 @@
 -- What the test of specs/Touch.antt comes to when that of a triangle is computed once: for each direction the cells that it leaves. proofs/Slabs.antt shows the two equal. Then the ranges. Definitions only.
-use mathlib.Core.Bool.{Bool, cond, _&&_}
-use mathlib.Core.List.{List, [], _∷_}
-use Prim.Native.Nat.{ℕ, _<_}
+use mathlib.Core.Bool.{Bool, _&&_}
+use mathlib.Core.List.{List}
+use Prim.Native.Nat.{_<_}
 use lib.IntN.{ℤ, pos, _+ℤ_, _-ℤ_, _*ℤ_}
-use lib.Signed.{ltZ, leZ}
+use lib.Signed.{leZ}
 use Rattle.grid.specs.declared.Cell.{Cell}
 use Rattle.numbers.specs.Rounding.{parts}
 use Rattle.ints.specs.Bound.{In, Each, Every}

@@ -1,5 +1,5 @@
 -- 01, Marking: whether a triangle touches a cell. All numbers are whole, with a sign, in parts of a cell's side. The meaning of separation (`Separates`) and its computation (`apart`); proofs/Meaning.antt joins them. Definitions only.
-use mathlib.Core.Bool.{Bool, true, false, not, _&&_, _||_}
+use mathlib.Core.Bool.{Bool, false, not, _&&_, _||_}
 use mathlib.Core.List.{List, [], _∷_, _++_}
 use Prim.Native.Nat.{ℕ, _*_, _≤_, _<_}
 use lib.Dec.{T}

@@ -2,11 +2,10 @@
 // the triangle alone is computed once: each direction leaves of all cells a slab of those that it does not
 // separate from the triangle.
 ghost use mathlib.Core.Path.{_≡_};
-ghost use mathlib.Core.List.{[], _∷_};
 ghost use lib.IntN.{pos, natAbs};
 ghost use Rattle.ints.specs.Bound.{In};
 ghost use Rattle.ints.specs.Order.{lesser, greater};
-ghost use Rattle.touch.specs.Touch.{vertex, dotZ, reach, edge, cross, normal, touching};
+ghost use Rattle.touch.specs.Touch.{dotZ, reach, edge, cross, normal, touching};
 ghost use Rattle.touch.specs.Slabs.{slabOf, threeOf, productsOf, slabsOf, kept, keptThree, keptAll, Dir, Far, Corner, Corners, Gentle, Gentles, Mild, Near, Beside};
 use grid::Cell;
 

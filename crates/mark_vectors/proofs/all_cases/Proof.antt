@@ -1,12 +1,9 @@
 -- `mark_vectors::all_cases` goes on in the input until too little is left. Assumes nothing.
 use native.Mathlib.Omega.{arith}
-use Prim.Native.Nat.{_-_, _≤_, _<_}
+use Prim.Native.Nat.{_-_, _≤_}
 use lib.ListN.{length}
 use Rattle.mark_vectors.proofs.all_cases.Statement.{statement}
 use Rattle.mark_vectors.proofs.all_cases.Tie as tie
-use Rattle.mark_vectors.proofs.all_cases.Reads as reads
-use Rattle.mark_vectors.proofs.all_cases.Lts as lts
-use Rattle.mark_vectors.proofs.one_case.Reads as one-case-reads
 
 abbrev Inv-loop : tie.InvT-loop
 Inv-loop s at₀ at = at ≤ length s

@@ -4,15 +4,6 @@ use lib.ListN.{length-take}
 use borrow.Author.Needs.{needs}
 use Rattle.mark_vectors.proofs.long_case.Statement.{statement}
 use Rattle.mark_vectors.proofs.long_case.Tie as tie
-use Rattle.mark_vectors.proofs.long_case.Reads as reads
-use Rattle.mark_vectors.proofs.long_case.Lts as lts
-use Rattle.mark_vectors.proofs.at_most.Reads as at-most-reads
-use Rattle.mark_vectors.proofs.axes_of.Reads as axes-of-reads
-use Rattle.mark_vectors.proofs.marked.Reads as marked-reads
-use Rattle.mark_vectors.proofs.ones.Reads as ones-reads
-use Rattle.mark_vectors.proofs.placement_of.Reads as placement-of-reads
-use Rattle.mark_vectors.proofs.zeros.Reads as zeros-reads
-use Rattle.replay.proofs.word.Reads as word-reads
 
 ones-requires : tie.Need-ones-requires
 ones-requires c κs = search needs

@@ -4,11 +4,6 @@ use lib.ListN.{length-take}
 use borrow.Author.Needs.{needs}
 use Rattle.mark_vectors.proofs.marked.Statement.{statement}
 use Rattle.mark_vectors.proofs.marked.Tie as tie
-use Rattle.mark_vectors.proofs.marked.Reads as reads
-use Rattle.mark_vectors.proofs.marked.Lts as lts
-use Rattle.mark_vectors.proofs.at_most.Reads as at-most-reads
-use Rattle.mark_vectors.proofs.mark_and_report.Reads as mark-and-report-reads
-use Rattle.mark_vectors.proofs.pattern.Reads as pattern-reads
 
 pattern-requires : tie.Need-pattern-requires
 pattern-requires c κs = search needs

@@ -1,5 +1,4 @@
 -- `mark_vectors::one_case` stays in the input. Assumes nothing.
-use native.Mathlib.Omega.{arith}
 use mathlib.Core.Bool.{Bool, true, false, _||_, true≢false}
 use mathlib.Core.Path.{_≡_, refl}
 use lib.Dec.{ltb}
@@ -7,11 +6,6 @@ use borrow.Author.Tests.{ltb-false}
 use borrow.Author.Needs.{needs}
 use Rattle.mark_vectors.proofs.one_case.Statement.{statement}
 use Rattle.mark_vectors.proofs.one_case.Tie as tie
-use Rattle.mark_vectors.proofs.one_case.Reads as reads
-use Rattle.mark_vectors.proofs.one_case.Lts as lts
-use Rattle.mark_vectors.proofs.long_case.Reads as long-case-reads
-use Rattle.mark_vectors.proofs.stored_case.Reads as stored-case-reads
-use Rattle.replay.proofs.word.Reads as word-reads
 
 neither : (a b : Bool) → (a || b) ≡ false → (a ≡ false) × (b ≡ false)
 neither true b h = absurd (true≢false h)

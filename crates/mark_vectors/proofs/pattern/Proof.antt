@@ -1,14 +1,12 @@
 -- `mark_vectors::pattern` stays in the array. Assumes nothing.
 use native.Mathlib.Omega.{arith}
 use native.Mathlib.Nat.{mod-lt}
-use Prim.Native.Nat.{_-_, _≤_, _<_, _%_}
+use Prim.Native.Nat.{_-_, _≤_}
 use mathlib.Core.Path.{_≡_, refl, _∙_}
 use lib.Dec.{lit<}
 use lib.ListN.{length, length-set}
 use Rattle.mark_vectors.proofs.pattern.Statement.{statement}
 use Rattle.mark_vectors.proofs.pattern.Tie as tie
-use Rattle.mark_vectors.proofs.pattern.Reads as reads
-use Rattle.mark_vectors.proofs.pattern.Lts as lts
 
 abbrev Inv-loop : tie.InvT-loop
 Inv-loop out₀ i₀ out i = (i ≤ 65536) × (65536 ≡ length out)

@@ -4,14 +4,6 @@ use lib.ListN.{length-take}
 use borrow.Author.Needs.{needs}
 use Rattle.mark_vectors.proofs.stored_case.Statement.{statement}
 use Rattle.mark_vectors.proofs.stored_case.Tie as tie
-use Rattle.mark_vectors.proofs.stored_case.Reads as reads
-use Rattle.mark_vectors.proofs.stored_case.Lts as lts
-use Rattle.mark_vectors.proofs.axes_of.Reads as axes-of-reads
-use Rattle.mark_vectors.proofs.floats.Reads as floats-reads
-use Rattle.mark_vectors.proofs.marked.Reads as marked-reads
-use Rattle.mark_vectors.proofs.placement_of.Reads as placement-of-reads
-use Rattle.mark_vectors.proofs.words.Reads as words-reads
-use Rattle.replay.proofs.word.Reads as word-reads
 
 add-from : tie.Need-add-from
 add-from c = search needs

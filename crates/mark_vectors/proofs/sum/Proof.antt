@@ -7,8 +7,6 @@ use lib.Dec.{lit<}
 use lib.ListN.{length}
 use Rattle.mark_vectors.proofs.sum.Statement.{statement}
 use Rattle.mark_vectors.proofs.sum.Tie as tie
-use Rattle.mark_vectors.proofs.sum.Reads as reads
-use Rattle.mark_vectors.proofs.sum.Lts as lts
 
 abbrev Inv-loop : tie.InvT-loop
 Inv-loop labels s₀ i₀ s i = i ≤ length labels

@@ -7,9 +7,6 @@ use lib.Dec.{lit<}
 use lib.ListN.{length}
 use Rattle.mark_vectors.proofs.surface_cells.Statement.{statement}
 use Rattle.mark_vectors.proofs.surface_cells.Tie as tie
-use Rattle.mark_vectors.proofs.surface_cells.Reads as reads
-use Rattle.mark_vectors.proofs.surface_cells.Lts as lts
-use Rattle.mark_vectors.proofs.one_if_surface.Reads as one-if-surface-reads
 
 abbrev Inv-loop : tie.InvT-loop
 Inv-loop labels n₀ i₀ n i = i ≤ length labels

@@ -5,9 +5,6 @@ use mathlib.Core.Path.{_≡_, refl, _∙_}
 use lib.ListN.{length, length-set}
 use Rattle.mark_vectors.proofs.words.Statement.{statement}
 use Rattle.mark_vectors.proofs.words.Tie as tie
-use Rattle.mark_vectors.proofs.words.Reads as reads
-use Rattle.mark_vectors.proofs.words.Lts as lts
-use Rattle.replay.proofs.word.Reads as word-reads
 
 abbrev Inv-loop : tie.InvT-loop
 Inv-loop s at n out₀ i₀ out i = (i ≤ n) × (192 ≡ length out)

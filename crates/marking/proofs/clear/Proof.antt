@@ -8,8 +8,6 @@ use Prim.Native.Nat.{ℕ, _-_, _≤_}
 use lib.ListN.{length, set, drop, replicate, length-set, drop-of-length-le}
 use Rattle.marking.proofs.clear.Statement.{statement}
 use Rattle.marking.proofs.clear.Tie as tie
-use Rattle.marking.proofs.clear.Reads as reads
-use Rattle.marking.proofs.clear.Lts as lts
 
 abbrev Inv-loop : tie.InvT-loop
 Inv-loop labels₀ n₀ labels n = (labels ≡ replicate n 0 ++ drop n labels₀) × (length labels ≡ length labels₀) × (n ≤ length labels₀)

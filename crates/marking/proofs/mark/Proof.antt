@@ -13,11 +13,6 @@ use Rattle.marking.proofs.Laws.{ready, painted-marked}
 use borrow.Author.Needs.{needs}
 use Rattle.marking.proofs.mark.Statement.{statement}
 use Rattle.marking.proofs.mark.Tie as tie
-use Rattle.marking.proofs.mark.Reads as reads
-use Rattle.marking.proofs.mark.Lts as lts
-use Rattle.marking.proofs.clear.Reads as clear-reads
-use Rattle.marking.proofs.mark_triangles.Reads as mark-triangles-reads
-use Rattle.mesh.proofs.mesh_fault.Reads as mesh-fault-reads
 
 -- the checks found nothing
 fine : (c : tie.After-enum-told) → meshFault (c .before .before .before .before .before .before .args .points .now) (c .before .before .before .before .before .before .args .triangles .now) (c .before .before .before .before .before .before .args .r) (c .before .before .before .before .before .before .args .at) (length (c .before .before .before .before .before .before .args .labels .now)) ≡ Fine

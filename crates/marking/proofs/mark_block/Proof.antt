@@ -5,9 +5,6 @@ use Rattle.marking.specs.Painted.{leftIn}
 use Rattle.marking.proofs.Paint.{Along, along-starts, along-on, along-sheet, painted-same, none-along-k, more-k, done-k}
 use Rattle.marking.proofs.mark_block.Statement.{statement}
 use Rattle.marking.proofs.mark_block.Tie as tie
-use Rattle.marking.proofs.mark_block.Reads as reads
-use Rattle.marking.proofs.mark_block.Lts as lts
-use Rattle.marking.proofs.mark_layer.Reads as mark-layer-reads
 
 abbrev Inv-loop : tie.InvT-loop
 Inv-loop labels₀ s r b to k₀ labels k = Along r (record { from = k₀; to = to }) k (leftIn (record { i = b .i; j = b .j; k = record { from = k₀; to = k } }) s) labels₀ labels

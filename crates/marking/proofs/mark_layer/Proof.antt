@@ -5,9 +5,6 @@ use Rattle.marking.specs.Painted.{leftIn, one}
 use Rattle.marking.proofs.Paint.{Along, along-starts, along-on, along-sheet, painted-same, none-along-j, more-j, done-j}
 use Rattle.marking.proofs.mark_layer.Statement.{statement}
 use Rattle.marking.proofs.mark_layer.Tie as tie
-use Rattle.marking.proofs.mark_layer.Reads as reads
-use Rattle.marking.proofs.mark_layer.Lts as lts
-use Rattle.marking.proofs.mark_row.Reads as mark-row-reads
 
 abbrev Inv-loop : tie.InvT-loop
 Inv-loop labels₀ s r k e to j₀ labels j = Along r (record { from = j₀; to = to }) j (leftIn (record { i = e; j = record { from = j₀; to = j }; k = one k }) s) labels₀ labels

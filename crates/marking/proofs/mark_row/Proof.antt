@@ -1,23 +1,17 @@
 -- `marking::mark_row` meets its contract: a loop along i (`Along`), a cell painted in each turn. Assumes nothing.
 use native.Mathlib.Omega.{arith}
-use mathlib.Core.Bool.{Bool, cond}
-use mathlib.Core.Path.{_≡_, sym, ap, subst, _∙_}
-use mathlib.Core.List.{List}
-use Prim.Native.Nat.{ℕ, _+_, _-_, _<_}
+use mathlib.Core.Bool.{cond}
+use mathlib.Core.Path.{_≡_, sym, subst, _∙_}
+use Prim.Native.Nat.{ℕ, _-_, _<_}
 use lib.ListN.{length, getD, set}
 use Rattle.grid.specs.declared.Cell.{Cell}
 use Rattle.grid.specs.Grid.{InGrid, num, at}
 use Rattle.grid.proofs.Cells.{num-lt}
-use Rattle.touch.specs.Slabs.{Near, keptAll}
+use Rattle.touch.specs.Slabs.{keptAll}
 use Rattle.marking.specs.Painted.{Painted, leftIn, rowOf, one, Sheet}
 use Rattle.marking.proofs.Paint.{Along, along-starts, along-on, along-sheet, painted-same, painted-cell, none-along-i, more-i, done-i}
 use Rattle.marking.proofs.mark_row.Statement.{statement}
 use Rattle.marking.proofs.mark_row.Tie as tie
-use Rattle.marking.proofs.mark_row.Reads as reads
-use Rattle.marking.proofs.mark_row.Lts as lts
-use Rattle.grid.proofs.number.Reads as number-reads
-use Rattle.marking.proofs.mark_if.Reads as mark-if-reads
-use Rattle.touch.proofs.within.Reads as within-reads
 
 abbrev Inv-loop : tie.InvT-loop
 Inv-loop labels₀ s r j k to i₀ labels i = Along r (record { from = i₀; to = to }) i (leftIn (rowOf (record { from = i₀; to = i }) j k) s) labels₀ labels

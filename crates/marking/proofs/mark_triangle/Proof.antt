@@ -1,26 +1,19 @@
 -- `marking::mark_triangle` meets its contract: the cells of the block that the slabs leave are those that the triangle hits. Assumes nothing.
 use mathlib.Core.Bool.{_&&_}
 use mathlib.Core.List.{List}
-use mathlib.Core.Path.{_≡_, sym, ap, subst, _∙_}
+use mathlib.Core.Path.{sym, ap, subst, _∙_}
 use lib.IntN.{ℤ}
 use Rattle.grid.specs.declared.Cell.{Cell}
 use Rattle.touch.specs.Slabs.{Corners, Mild}
 use Rattle.touch.specs.Touch.{touching}
 use Rattle.touch.proofs.Laws.{slabs-mild}
 use Rattle.mesh.specs.Mesh.{triangleOf, isCandidate}
-use Rattle.mesh.specs.Ranges.{OnCells, BlockOf}
+use Rattle.mesh.specs.Ranges.{OnCells}
 use Rattle.mesh.proofs.Laws.{on-cells, corners, ends-in}
 use Rattle.marking.specs.Marked.{hits}
 use Rattle.marking.proofs.Paint.{painted-same, left-hits}
-use borrow.Author.Needs.{needs}
 use Rattle.marking.proofs.mark_triangle.Statement.{statement}
 use Rattle.marking.proofs.mark_triangle.Tie as tie
-use Rattle.marking.proofs.mark_triangle.Reads as reads
-use Rattle.marking.proofs.mark_triangle.Lts as lts
-use Rattle.marking.proofs.mark_block.Reads as mark-block-reads
-use Rattle.mesh.proofs.candidates.Reads as candidates-reads
-use Rattle.mesh.proofs.triangle_of.Reads as triangle-of-reads
-use Rattle.touch.proofs.slabs_of.Reads as slabs-of-reads
 
 -- the triangle's vertices fall on cells
 placed : (c : tie.After-triangle-of) → OnCells (c .before .before .before .before .args .r) (triangleOf (c .before .before .before .before .args .ps .now) (c .before .before .before .before .args .ts .now) (c .before .before .before .before .args .at) (c .before .before .before .before .args .t))

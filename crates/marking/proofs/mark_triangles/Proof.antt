@@ -1,6 +1,6 @@
 -- `marking::mark_triangles` meets its contract: after t turns the cells that some of the first t triangles hit are painted. Assumes nothing.
 use native.Mathlib.Omega.{arith}
-use mathlib.Core.Path.{_≡_, sym, ap, subst, _∙_}
+use mathlib.Core.Path.{_≡_, subst}
 use Prim.Native.Nat.{ℕ, _-_, _≤_}
 use Rattle.grid.specs.declared.Cell.{Cell}
 use Rattle.grid.specs.First.{someBelow}
@@ -10,9 +10,6 @@ use Rattle.marking.specs.Painted.{Painted}
 use Rattle.marking.proofs.Paint.{painted-none, painted-then, painted-sheet, some-none, some-more}
 use Rattle.marking.proofs.mark_triangles.Statement.{statement}
 use Rattle.marking.proofs.mark_triangles.Tie as tie
-use Rattle.marking.proofs.mark_triangles.Reads as reads
-use Rattle.marking.proofs.mark_triangles.Lts as lts
-use Rattle.marking.proofs.mark_triangle.Reads as mark-triangle-reads
 
 abbrev Inv-loop : tie.InvT-loop
 Inv-loop labels₀ ps ts r at n t₀ labels t = Painted r (λ (c : Cell). someBelow t (λ u. hits ps ts r at u c)) labels₀ labels × (t ≤ n)

@@ -4,9 +4,6 @@ use Rattle.mesh.proofs.Laws.{on-i, on-j, on-k, handed-axis, handed-ends
 use borrow.Author.Needs.{needs}
 use Rattle.mesh.proofs.candidates.Statement.{statement}
 use Rattle.mesh.proofs.candidates.Tie as tie
-use Rattle.mesh.proofs.candidates.Reads as reads
-use Rattle.mesh.proofs.candidates.Lts as lts
-use Rattle.mesh.proofs.ends_of.Reads as ends-of-reads
 
 index-1-ends-of : tie.Need-index-1-ends-of
 index-1-ends-of c = search needs

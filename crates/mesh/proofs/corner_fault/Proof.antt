@@ -5,9 +5,6 @@ use Rattle.grid.proofs.Checks.{fault-here, fault-not}
 use borrow.Author.Needs.{needs}
 use Rattle.mesh.proofs.corner_fault.Statement.{statement}
 use Rattle.mesh.proofs.corner_fault.Tie as tie
-use Rattle.mesh.proofs.corner_fault.Reads as reads
-use Rattle.mesh.proofs.corner_fault.Lts as lts
-use Rattle.grid.proofs.fault.Reads as fault-reads
 
 fault-requires : tie.Need-fault-requires
 fault-requires c κs = search needs

@@ -1,9 +1,7 @@
 -- `mesh::ends_of` meets its contract. Assumes nothing.
 use mathlib.Core.Path.{_≡_, sym, _∙_, subst}
-use lib.IntN.{ℤ}
 use mir.Syntax.{w64}
-use mir.Val.{SFits, toZ, ofZ}
-use Rattle.grid.specs.Grid.{Axis}
+use mir.Val.{toZ, ofZ}
 use Rattle.numbers.specs.Rounding.{cellOf}
 use Rattle.mesh.specs.Mesh.{firstOf, pastOf}
 use Rattle.mesh.specs.Ranges.{Held}
@@ -11,11 +9,6 @@ use Rattle.mesh.proofs.Laws.{cell-read, on-axis-held}
 use borrow.Author.Needs.{needs}
 use Rattle.mesh.proofs.ends_of.Statement.{statement}
 use Rattle.mesh.proofs.ends_of.Tie as tie
-use Rattle.mesh.proofs.ends_of.Reads as reads
-use Rattle.mesh.proofs.ends_of.Lts as lts
-use Rattle.mesh.proofs.first_of.Reads as first-of-reads
-use Rattle.mesh.proofs.past_of.Reads as past-of-reads
-use Rattle.numbers.proofs.cell_of.Reads as cell-of-reads
 
 -- the cells of the three coordinates as the machine has them
 read : (c : tie.After-cell-of3) → (toZ w64 (ofZ w64 (c .before .before .cell-of .result)) ≡ cellOf (c .before .before .before .args .x)) × (toZ w64 (ofZ w64 (c .before .cell-of2 .result)) ≡ cellOf (c .before .before .before .args .y)) × (toZ w64 (ofZ w64 (c .cell-of3 .result)) ≡ cellOf (c .before .before .before .args .z))

@@ -8,8 +8,6 @@ use Rattle.grid.proofs.First.{Looking, looking-starts, looking-on, looking-here
 use Rattle.mesh.specs.Faults.{names}
 use Rattle.mesh.proofs.first_missing.Statement.{statement}
 use Rattle.mesh.proofs.first_missing.Tie as tie
-use Rattle.mesh.proofs.first_missing.Reads as reads
-use Rattle.mesh.proofs.first_missing.Lts as lts
 
 abbrev Inv-loop : tie.InvT-loop
 Inv-loop ts n k₀ k = Looking (names n) ts k

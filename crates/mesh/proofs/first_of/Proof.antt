@@ -11,14 +11,10 @@ use Rattle.ints.specs.Bound.{Val, arg, lit, minus, v-in, v-sub, fits, pos-abs}
 use Rattle.ints.specs.Casts.{not-below}
 use Rattle.ints.specs.Order.{lesser}
 use Rattle.touch.proofs.Laws.{v-lesser}
-use Rattle.mesh.specs.Mesh.{firstOf}
 use Rattle.mesh.proofs.Laws.{held-in}
 use borrow.Author.Needs.{needs}
 use Rattle.mesh.proofs.first_of.Statement.{statement}
 use Rattle.mesh.proofs.first_of.Tie as tie
-use Rattle.mesh.proofs.first_of.Reads as reads
-use Rattle.mesh.proofs.first_of.Lts as lts
-use Rattle.touch.proofs.least.Reads as least-reads
 
 -- the least cell as the machine has it
 leastCell : (c : tie.After-least2) → Val 255 (toZ w64 (ofZ w64 (c .least2 .result))) (lesser (lesser (c .before .before .args .a) (c .before .before .args .b)) (c .before .before .args .c))

@@ -2,18 +2,12 @@
 use borrow.Author.Needs.{needs}
 use native.Mathlib.Omega.{arith}
 use mathlib.Core.Path.{sym, ap, _∙_}
-use mathlib.Core.List.{List}
 use Prim.Native.Nat.{ℕ, _-_}
-use lib.IntN.{ℤ}
-use lib.ListN.{length, getD}
+use lib.ListN.{length}
 use Rattle.grid.proofs.First.{Looking, looking-starts, looking-on, looking-here, looking-done}
 use Rattle.mesh.specs.Mesh.{onGrid, vertexOf}
 use Rattle.mesh.proofs.first_off.Statement.{statement}
 use Rattle.mesh.proofs.first_off.Tie as tie
-use Rattle.mesh.proofs.first_off.Reads as reads
-use Rattle.mesh.proofs.first_off.Lts as lts
-use Rattle.mesh.proofs.on_grid.Reads as on-grid-reads
-use Rattle.mesh.proofs.vertex_of.Reads as vertex-of-reads
 
 abbrev Inv-loop : tie.InvT-loop
 Inv-loop ps ts r at k₀ k = Looking (λ (v : ℕ). onGrid r (vertexOf ps at v)) ts k

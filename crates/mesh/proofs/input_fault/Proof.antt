@@ -4,14 +4,6 @@ use Rattle.grid.specs.Answers.{_andThen_}
 use borrow.Author.Needs.{needs}
 use Rattle.mesh.proofs.input_fault.Statement.{statement}
 use Rattle.mesh.proofs.input_fault.Tie as tie
-use Rattle.mesh.proofs.input_fault.Reads as reads
-use Rattle.mesh.proofs.input_fault.Lts as lts
-use Rattle.grid.proofs.and_then.Reads as and-then-reads
-use Rattle.grid.proofs.grid_fault.Reads as grid-fault-reads
-use Rattle.mesh.proofs.lengths_fault.Reads as lengths-fault-reads
-use Rattle.mesh.proofs.lent_fault.Reads as lent-fault-reads
-use Rattle.mesh.proofs.lent_numbers_fault.Reads as lent-numbers-fault-reads
-use Rattle.mesh.proofs.missing_fault.Reads as missing-fault-reads
 
 lengths-fault-requires : tie.Need-lengths-fault-requires
 lengths-fault-requires c κs = search needs

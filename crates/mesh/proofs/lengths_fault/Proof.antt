@@ -4,11 +4,6 @@ use Rattle.grid.specs.Answers.{_andThen_}
 use borrow.Author.Needs.{needs}
 use Rattle.mesh.proofs.lengths_fault.Statement.{statement}
 use Rattle.mesh.proofs.lengths_fault.Tie as tie
-use Rattle.mesh.proofs.lengths_fault.Reads as reads
-use Rattle.mesh.proofs.lengths_fault.Lts as lts
-use Rattle.grid.proofs.and_then.Reads as and-then-reads
-use Rattle.sizing.proofs.length_fault.Reads as length-fault-reads
-use Rattle.sizing.proofs.none_fault.Reads as none-fault-reads
 
 length-fault-requires : tie.Need-length-fault-requires
 length-fault-requires c κs = search needs

@@ -6,9 +6,6 @@ use Rattle.mesh.proofs.Laws.{lent-tests}
 use borrow.Author.Needs.{needs}
 use Rattle.mesh.proofs.lent_fault.Statement.{statement}
 use Rattle.mesh.proofs.lent_fault.Tie as tie
-use Rattle.mesh.proofs.lent_fault.Reads as reads
-use Rattle.mesh.proofs.lent_fault.Lts as lts
-use Rattle.grid.proofs.fault.Reads as fault-reads
 
 returns : tie.Need-returns
 returns c = fault-not _ 5 0 _ (ap not (sym (lent-tests (c .before .args .at)) ∙ c .if1 .taken))

@@ -4,11 +4,6 @@ use Rattle.grid.specs.Answers.{_andThen_}
 use borrow.Author.Needs.{needs}
 use Rattle.mesh.proofs.lent_numbers_fault.Statement.{statement}
 use Rattle.mesh.proofs.lent_numbers_fault.Tie as tie
-use Rattle.mesh.proofs.lent_numbers_fault.Reads as reads
-use Rattle.mesh.proofs.lent_numbers_fault.Lts as lts
-use Rattle.grid.proofs.and_then.Reads as and-then-reads
-use Rattle.mesh.proofs.origin_fault.Reads as origin-fault-reads
-use Rattle.sizing.proofs.numbers_fault.Reads as numbers-fault-reads
 
 origin-fault-requires : tie.Need-origin-fault-requires
 origin-fault-requires c κs = search needs

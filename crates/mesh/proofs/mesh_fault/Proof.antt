@@ -1,5 +1,5 @@
 -- `mesh::mesh_fault` meets its contract: where the first checks find nothing, every corner names a point. Assumes nothing.
-use mathlib.Core.Path.{_≡_, sym, ap, _∙_}
+use mathlib.Core.Path.{sym, ap, _∙_}
 use Rattle.grid.specs.declared.Checked.{Checked}
 use Rattle.grid.specs.Answers.{_andThen_}
 use Rattle.mesh.specs.Faults.{offFault}
@@ -7,10 +7,6 @@ use Rattle.mesh.proofs.Laws.{input-fine}
 use borrow.Author.Needs.{needs}
 use Rattle.mesh.proofs.mesh_fault.Statement.{statement}
 use Rattle.mesh.proofs.mesh_fault.Tie as tie
-use Rattle.mesh.proofs.mesh_fault.Reads as reads
-use Rattle.mesh.proofs.mesh_fault.Lts as lts
-use Rattle.mesh.proofs.input_fault.Reads as input-fault-reads
-use Rattle.mesh.proofs.off_fault.Reads as off-fault-reads
 
 input-fault-requires : tie.Need-input-fault-requires
 input-fault-requires c κs = search needs

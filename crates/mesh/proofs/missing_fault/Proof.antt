@@ -8,10 +8,6 @@ use Rattle.grid.specs.Answers.{faultIf}
 use borrow.Author.Needs.{needs}
 use Rattle.mesh.proofs.missing_fault.Statement.{statement}
 use Rattle.mesh.proofs.missing_fault.Tie as tie
-use Rattle.mesh.proofs.missing_fault.Reads as reads
-use Rattle.mesh.proofs.missing_fault.Lts as lts
-use Rattle.mesh.proofs.corner_fault.Reads as corner-fault-reads
-use Rattle.mesh.proofs.first_missing.Reads as first-missing-reads
 
 first-missing-requires : tie.Need-first-missing-requires
 first-missing-requires c κs = search needs

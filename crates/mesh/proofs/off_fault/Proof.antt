@@ -8,10 +8,6 @@ use Rattle.grid.specs.Answers.{faultIf}
 use borrow.Author.Needs.{needs}
 use Rattle.mesh.proofs.off_fault.Statement.{statement}
 use Rattle.mesh.proofs.off_fault.Tie as tie
-use Rattle.mesh.proofs.off_fault.Reads as reads
-use Rattle.mesh.proofs.off_fault.Lts as lts
-use Rattle.mesh.proofs.corner_fault.Reads as corner-fault-reads
-use Rattle.mesh.proofs.first_off.Reads as first-off-reads
 
 first-off-requires : tie.Need-first-off-requires
 first-off-requires c κs = c .before .before .pre

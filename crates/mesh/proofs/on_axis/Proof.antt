@@ -10,9 +10,6 @@ use Rattle.mesh.proofs.Laws.{cell-read}
 use borrow.Author.Needs.{needs}
 use Rattle.mesh.proofs.on_axis.Statement.{statement}
 use Rattle.mesh.proofs.on_axis.Tie as tie
-use Rattle.mesh.proofs.on_axis.Reads as reads
-use Rattle.mesh.proofs.on_axis.Lts as lts
-use Rattle.numbers.proofs.cell_of.Reads as cell-of-reads
 
 cell-of-requires : tie.Need-cell-of-requires
 cell-of-requires c κs = search needs

@@ -1,15 +1,11 @@
-use lib.Dec.{lit<}
 use mir.Facts.{toZ-ofZ}
 use Rattle.mesh.specs.Mesh.{onAxis}
 -- `mesh::on_grid` meets its contract. Assumes nothing.
-use mathlib.Core.Path.{_≡_, ap, _∙_}
+use mathlib.Core.Path.{ap, _∙_}
 use mathlib.Core.Bool.{_&&_}
 use borrow.Author.Needs.{needs}
 use Rattle.mesh.proofs.on_grid.Statement.{statement}
 use Rattle.mesh.proofs.on_grid.Tie as tie
-use Rattle.mesh.proofs.on_grid.Reads as reads
-use Rattle.mesh.proofs.on_grid.Lts as lts
-use Rattle.mesh.proofs.on_axis.Reads as on-axis-reads
 
 array-copy-out-on-axis : tie.Need-array-copy-out-on-axis
 array-copy-out-on-axis c = search needs

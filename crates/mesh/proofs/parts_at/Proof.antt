@@ -9,10 +9,6 @@ use Rattle.mesh.proofs.Laws.{parts-fits}
 use borrow.Author.Needs.{needs}
 use Rattle.mesh.proofs.parts_at.Statement.{statement}
 use Rattle.mesh.proofs.parts_at.Tie as tie
-use Rattle.mesh.proofs.parts_at.Reads as reads
-use Rattle.mesh.proofs.parts_at.Lts as lts
-use Rattle.mesh.proofs.whole_parts.Reads as whole-parts-reads
-use Rattle.numbers.proofs.to_parts.Reads as to-parts-reads
 
 to-parts-requires : tie.Need-to-parts-requires
 to-parts-requires c κs = search needs

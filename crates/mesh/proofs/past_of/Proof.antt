@@ -3,25 +3,21 @@ use mathlib.Core.Bool.{Bool, true, false, cond}
 use mathlib.Core.Path.{_≡_, sym, ap, _∙_}
 use native.Mathlib.Nat.{lt-of-le-of-lt}
 use native.Mathlib.Omega.{arith}
-use Prim.Native.Nat.{ℕ, _+_}
+use Prim.Native.Nat.{_+_}
 use lib.Dec.{lit<}
 use lib.IntN.{ℤ, pos, natAbs, _+ℤ_}
 use lib.Signed.{ltZ}
 use mir.Syntax.{w64}
 use mir.Val.{toZ, ofZ}
-use Rattle.ints.specs.Bound.{Val, arg, lit, plus, v-in, v-add, fits}
+use Rattle.ints.specs.Bound.{Val, arg, lit, plus, v-add, fits}
 use Rattle.ints.specs.Casts.{of-unsigned, to-unsigned}
 use Rattle.ints.specs.Order.{greater}
 use Rattle.touch.proofs.Laws.{v-greater}
-use Rattle.mesh.specs.Mesh.{pastOf}
 use Rattle.mesh.specs.Ranges.{Held}
 use Rattle.mesh.proofs.Laws.{held-in, held-greater}
 use borrow.Author.Needs.{needs}
 use Rattle.mesh.proofs.past_of.Statement.{statement}
 use Rattle.mesh.proofs.past_of.Tie as tie
-use Rattle.mesh.proofs.past_of.Reads as reads
-use Rattle.mesh.proofs.past_of.Lts as lts
-use Rattle.touch.proofs.greatest.Reads as greatest-reads
 
 -- the greatest cell as the machine has it, and one more
 greatestCell : (c : tie.After-greatest2) → Val 255 (toZ w64 (ofZ w64 (c .greatest2 .result))) (greater (greater (c .before .before .args .a) (c .before .before .args .b)) (c .before .before .args .c))

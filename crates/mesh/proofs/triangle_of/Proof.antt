@@ -1,8 +1,8 @@
 -- `mesh::triangle_of` meets its contract: three corners from 3 t on. Assumes nothing.
 use native.Mathlib.Omega.{arith}
 use native.Mathlib.Nat.{add-zero}
-use mathlib.Core.Path.{_≡_, sym, ap, _∙_}
-use Prim.Native.Nat.{ℕ, _+_, _*_, _<_}
+use mathlib.Core.Path.{sym, ap, _∙_}
+use Prim.Native.Nat.{ℕ, _+_, _*_}
 use lib.ListN.{length, getD}
 use Rattle.ints.specs.Bound.{cons3}
 use Rattle.mesh.specs.Mesh.{vertexOf}
@@ -10,9 +10,6 @@ use Rattle.mesh.proofs.Laws.{within-points}
 use borrow.Author.Needs.{needs}
 use Rattle.mesh.proofs.triangle_of.Statement.{statement}
 use Rattle.mesh.proofs.triangle_of.Tie as tie
-use Rattle.mesh.proofs.triangle_of.Reads as reads
-use Rattle.mesh.proofs.triangle_of.Lts as lts
-use Rattle.mesh.proofs.vertex_of.Reads as vertex-of-reads
 
 mul-n : tie.Need-mul-n
 mul-n c =

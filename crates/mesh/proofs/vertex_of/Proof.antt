@@ -3,20 +3,17 @@ use mathlib.Core.Path.{_≡_, ap, sym, _∙_}
 use native.Mathlib.Nat.{add-zero}
 use Prim.Native.Nat.{ℕ, _*_}
 use lib.IntN.{ℤ}
-use lib.ListN.{length, getD}
+use lib.ListN.{getD}
 use lib.Ieee.{Float, nan}
 use mir.Facts.{toZ-ofZ}
 use mir.Syntax.{w64}
 use mir.Val.{toZ, ofZ}
 use Rattle.ints.specs.Bound.{cons3}
 use Rattle.mesh.specs.Mesh.{partsAt}
-use Rattle.mesh.proofs.Laws.{parts-fits, within-points}
+use Rattle.mesh.proofs.Laws.{parts-fits}
 use borrow.Author.Needs.{needs}
 use Rattle.mesh.proofs.vertex_of.Statement.{statement}
 use Rattle.mesh.proofs.vertex_of.Tie as tie
-use Rattle.mesh.proofs.vertex_of.Reads as reads
-use Rattle.mesh.proofs.vertex_of.Lts as lts
-use Rattle.mesh.proofs.parts_at.Reads as parts-at-reads
 
 -- a call's answer, as the machine reads it back
 read : {q : ℤ} (p o r : Float) → q ≡ partsAt p o r → toZ w64 (ofZ w64 q) ≡ partsAt p o r

@@ -1,14 +1,11 @@
 -- `mesh::whole_parts` meets its contract: each case is the definition's. Assumes nothing.
 use mathlib.Core.Path.{_≡_, sym, ap, _∙_}
-use lib.IntN.{ℤ}
 use mir.Syntax.{w64}
 use mir.Val.{toZ, ofZ}
 use Rattle.mesh.specs.Mesh.{wholeParts}
 use borrow.Author.Needs.{needs}
 use Rattle.mesh.proofs.whole_parts.Statement.{statement}
 use Rattle.mesh.proofs.whole_parts.Tie as tie
-use Rattle.mesh.proofs.whole_parts.Reads as reads
-use Rattle.mesh.proofs.whole_parts.Lts as lts
 
 -- the arm's number, as the machine reads it back from its bits
 same : (c : tie.After-known-told) → toZ w64 (ofZ w64 (c .before .w .given .0 .0)) ≡ c .before .w .given .0 .0

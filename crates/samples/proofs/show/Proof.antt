@@ -5,10 +5,6 @@ use Prim.Native.Nat.{_-_, _≤_}
 use lib.ListN.{length}
 use Rattle.samples.proofs.show.Statement.{statement}
 use Rattle.samples.proofs.show.Tie as tie
-use Rattle.samples.proofs.show.Reads as reads
-use Rattle.samples.proofs.show.Lts as lts
-use Rattle.replay.proofs.number.Reads as number-reads
-use Rattle.replay.proofs.text.Reads as text-reads
 
 abbrev Inv-loop : tie.InvT-loop
 Inv-loop labels i₀ t3 i = i ≤ length labels

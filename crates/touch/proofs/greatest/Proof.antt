@@ -5,8 +5,6 @@ use lib.Signed.{ltZ}
 use Rattle.ints.specs.Casts.{known}
 use Rattle.touch.proofs.greatest.Statement.{statement}
 use Rattle.touch.proofs.greatest.Tie as tie
-use Rattle.touch.proofs.greatest.Reads as reads
-use Rattle.touch.proofs.greatest.Lts as lts
 
 returns : tie.Need-returns
 returns c =

@@ -4,8 +4,6 @@ use lib.Signed.{leZ}
 use Rattle.ints.specs.Bound.{arg, plus, times, v-add, v-mul, fits}
 use Rattle.touch.proofs.keeps.Statement.{statement}
 use Rattle.touch.proofs.keeps.Tie as tie
-use Rattle.touch.proofs.keeps.Reads as reads
-use Rattle.touch.proofs.keeps.Lts as lts
 
 mul-p : tie.Need-mul-p
 mul-p c =

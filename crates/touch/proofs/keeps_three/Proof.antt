@@ -4,12 +4,8 @@ use mathlib.Core.Path.{_∙_}
 use Rattle.ints.specs.Casts.{known}
 use Rattle.touch.specs.Slabs.{keptThree}
 use Rattle.touch.proofs.Laws.{handed}
-use borrow.Author.Needs.{needs}
 use Rattle.touch.proofs.keeps_three.Statement.{statement}
 use Rattle.touch.proofs.keeps_three.Tie as tie
-use Rattle.touch.proofs.keeps_three.Reads as reads
-use Rattle.touch.proofs.keeps_three.Lts as lts
-use Rattle.touch.proofs.keeps.Reads as keeps-reads
 
 keeps-requires : tie.Need-keeps-requires
 keeps-requires c κs = (c .pre .0 .x-ok, handed (c .pre .1))

@@ -5,8 +5,6 @@ use lib.Signed.{ltZ}
 use Rattle.ints.specs.Casts.{known}
 use Rattle.touch.proofs.least.Statement.{statement}
 use Rattle.touch.proofs.least.Tie as tie
-use Rattle.touch.proofs.least.Reads as reads
-use Rattle.touch.proofs.least.Lts as lts
 
 returns : tie.Need-returns
 returns c =

@@ -2,14 +2,8 @@
 use lib.Dec.{lit<}
 use Rattle.ints.specs.Bound.{each-eq}
 use Rattle.touch.proofs.Laws.{edge-in, cross-in}
-use borrow.Author.Needs.{needs}
 use Rattle.touch.proofs.normal_slab.Statement.{statement}
 use Rattle.touch.proofs.normal_slab.Tie as tie
-use Rattle.touch.proofs.normal_slab.Reads as reads
-use Rattle.touch.proofs.normal_slab.Lts as lts
-use Rattle.touch.proofs.cross_of.Reads as cross-of-reads
-use Rattle.touch.proofs.edge_of.Reads as edge-of-reads
-use Rattle.touch.proofs.slab_along.Reads as slab-along-reads
 
 array-copy-out-edge-of : tie.Need-array-copy-out-edge-of
 array-copy-out-edge-of c = lit< tt

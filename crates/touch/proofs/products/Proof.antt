@@ -1,18 +1,12 @@
 -- `touch::products` meets its contract: the products of an edge with the axes, written out. Assumes nothing.
 use lib.Dec.{lit<}
-use mathlib.Core.Path.{_≡_, refl, sym, ap, _∙_}
-use mathlib.Core.List.{List}
-use lib.IntN.{ℤ, pos}
-use Rattle.ints.specs.Bound.{Each, arg, negate, v-negate, fits, in3, in-up, in-lit, each-eq, v-in, cons3}
-use Rattle.touch.specs.Slabs.{Far, threeOf}
+use mathlib.Core.Path.{refl, sym, _∙_}
+use lib.IntN.{pos}
+use Rattle.ints.specs.Bound.{arg, negate, v-negate, fits, in3, in-up, in-lit, each-eq, v-in, cons3}
+use Rattle.touch.specs.Slabs.{threeOf}
 use Rattle.touch.proofs.Laws.{edge-in, cross-x, cross-y, cross-z}
-use borrow.Author.Needs.{needs}
 use Rattle.touch.proofs.products.Statement.{statement}
 use Rattle.touch.proofs.products.Tie as tie
-use Rattle.touch.proofs.products.Reads as reads
-use Rattle.touch.proofs.products.Lts as lts
-use Rattle.touch.proofs.edge_of.Reads as edge-of-reads
-use Rattle.touch.proofs.three_along.Reads as three-along-reads
 
 edge-of-requires : tie.Need-edge-of-requires
 edge-of-requires c κs = c .pre .0

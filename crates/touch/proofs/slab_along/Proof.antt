@@ -5,15 +5,8 @@ use Rattle.numbers.specs.Rounding.{parts}
 use Rattle.ints.specs.Bound.{arg, got, lit, times, plus, minus, v-mul, v-add, v-sub, fits}
 use Rattle.touch.specs.Slabs.{slabOf}
 use Rattle.touch.proofs.Laws.{dot-in, reach-in, v-lesser, v-greater}
-use borrow.Author.Needs.{needs}
 use Rattle.touch.proofs.slab_along.Statement.{statement}
 use Rattle.touch.proofs.slab_along.Tie as tie
-use Rattle.touch.proofs.slab_along.Reads as reads
-use Rattle.touch.proofs.slab_along.Lts as lts
-use Rattle.touch.proofs.dot.Reads as dot-reads
-use Rattle.touch.proofs.greatest.Reads as greatest-reads
-use Rattle.touch.proofs.least.Reads as least-reads
-use Rattle.touch.proofs.span.Reads as span-reads
 
 array-copy-out-dot : tie.Need-array-copy-out-dot
 array-copy-out-dot c = lit< tt

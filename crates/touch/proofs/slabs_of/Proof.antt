@@ -1,14 +1,8 @@
 -- `touch::slabs_of` meets its contract. Assumes nothing.
 use lib.Dec.{lit<}
 use Rattle.touch.proofs.Laws.{axis-dir}
-use borrow.Author.Needs.{needs}
 use Rattle.touch.proofs.slabs_of.Statement.{statement}
 use Rattle.touch.proofs.slabs_of.Tie as tie
-use Rattle.touch.proofs.slabs_of.Reads as reads
-use Rattle.touch.proofs.slabs_of.Lts as lts
-use Rattle.touch.proofs.normal_slab.Reads as normal-slab-reads
-use Rattle.touch.proofs.products.Reads as products-reads
-use Rattle.touch.proofs.three_along.Reads as three-along-reads
 
 three-along-requires : tie.Need-three-along-requires
 three-along-requires c κs = ((axis-dir 1 0 0 tt tt tt, axis-dir 0 1 0 tt tt tt, axis-dir 0 0 1 tt tt tt), c .pre)

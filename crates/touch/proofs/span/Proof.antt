@@ -2,13 +2,9 @@ use lib.Dec.{lit<}
 use Rattle.ints.specs.Bound.{arg, sized, lit, plus, times, v-in, v-add, v-mul, fits}
 use Rattle.touch.specs.Touch.{reach}
 use Rattle.numbers.specs.Rounding.{half}
-use lib.IntN.{ℤ, pos, negsuc, negℤ, natAbs}
-use borrow.Author.Needs.{needs}
+use lib.IntN.{pos}
 use Rattle.touch.proofs.span.Statement.{statement}
 use Rattle.touch.proofs.span.Tie as tie
-use Rattle.touch.proofs.span.Reads as reads
-use Rattle.touch.proofs.span.Lts as lts
-use Rattle.touch.proofs.abs.Reads as abs-reads
 
 array-copy-out-abs : tie.Need-array-copy-out-abs
 array-copy-out-abs c = lit< tt

@@ -1,10 +1,6 @@
 -- `touch::three_along` meets its contract. Assumes nothing.
-use borrow.Author.Needs.{needs}
 use Rattle.touch.proofs.three_along.Statement.{statement}
 use Rattle.touch.proofs.three_along.Tie as tie
-use Rattle.touch.proofs.three_along.Reads as reads
-use Rattle.touch.proofs.three_along.Lts as lts
-use Rattle.touch.proofs.slab_along.Reads as slab-along-reads
 
 slab-along-requires : tie.Need-slab-along-requires
 slab-along-requires c κs = (c .pre .0 .0, c .pre .1)

@@ -1,15 +1,10 @@
 -- `touch::touches` meets its contract: what the thirteen slabs leave is what the triangle touches. Assumes nothing.
-use mathlib.Core.Path.{_≡_, sym, ap, subst, _∙_}
+use mathlib.Core.Path.{sym, ap, subst, _∙_}
 use Rattle.touch.specs.declared.Slabs.{Slabs}
 use Rattle.touch.specs.Slabs.{keptAll, Mild}
 use Rattle.touch.proofs.Laws.{slabs-mild, slabs-touch}
-use borrow.Author.Needs.{needs}
 use Rattle.touch.proofs.touches.Statement.{statement}
 use Rattle.touch.proofs.touches.Tie as tie
-use Rattle.touch.proofs.touches.Reads as reads
-use Rattle.touch.proofs.touches.Lts as lts
-use Rattle.touch.proofs.slabs_of.Reads as slabs-of-reads
-use Rattle.touch.proofs.within.Reads as within-reads
 
 slabs-of-requires : tie.Need-slabs-of-requires
 slabs-of-requires c κs = c .pre .0

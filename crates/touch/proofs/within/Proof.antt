@@ -1,15 +1,11 @@
 -- `touch::within` meets its contract. Assumes nothing.
 use mathlib.Core.Bool.{_&&_}
-use mathlib.Core.Path.{_≡_, sym, ap, _∙_}
+use mathlib.Core.Path.{_∙_}
 use Rattle.touch.specs.Slabs.{keptAll, keptAt}
 use Rattle.touch.proofs.Laws.{signed, near-beside}
 use borrow.Author.Needs.{needs}
 use Rattle.touch.proofs.within.Statement.{statement}
 use Rattle.touch.proofs.within.Tie as tie
-use Rattle.touch.proofs.within.Reads as reads
-use Rattle.touch.proofs.within.Lts as lts
-use Rattle.touch.proofs.keeps.Reads as keeps-reads
-use Rattle.touch.proofs.keeps_three.Reads as keeps-three-reads
 
 cast-i : tie.Need-cast-i
 cast-i c = search needs

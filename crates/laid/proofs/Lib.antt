@@ -1,0 +1,3 @@
+pub mod Near
+pub mod Cover
+pub mod Own

@@ -1,0 +1,1 @@
+// Laws on the grids that sizing lays over points: each has a cell for every point.
