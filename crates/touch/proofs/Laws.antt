@@ -6,18 +6,19 @@ use Prim.Native.Nat.{ℕ, _<_, _^_}
 use native.Mathlib.Nat.{lt-trans}
 use native.Mathlib.Omega.{arith}
 use lib.Dec.{T, ltb, leb, lit<}
-use lib.IntN.{ℤ, one, pos, negℤ, _+ℤ_, _-ℤ_, _*ℤ_, +ℤ-idl, +ℤ-idr, *ℤ-one, *ℤ-zero, *ℤ-comm}
+use lib.IntN.{ℤ, one, pos, negℤ, _+ℤ_, _-ℤ_, _*ℤ_, +ℤ-idl, +ℤ-idr, *ℤ-one, *ℤ-zero, zero-*ℤ, *ℤ-comm}
 use lib.Signed.{ltZ, leZ}
 use mir.Syntax.{w64}
 use mir.Val.{toZ, ofZ}
 use Rattle.grid.specs.declared.Cell.{Cell}
 use Rattle.numbers.specs.Rounding.{parts, half}
-use Rattle.ints.specs.Bound.{In, Val, Each, arg, got, v-in, in-add, in-sub, in-mul, in-abs, in-lit, in-up, in-eq, in3, cons3}
+use Rattle.ints.specs.Bound.{In, Val, Each, got, in-add, in-sub, in-mul, in-abs, in-lit, in-up, in-eq, in3, cons3}
 use Rattle.ints.specs.Casts.{of-unsigned}
 use Rattle.ints.specs.Order.{lesser, greater, le-not, lt-lesser, lt-greater, lt-less, lt-more}
 use Rattle.ints.specs.Ring.{ap3, mul-assoc}
+use Rattle.touch.specs.declared.Three.{Three}
 use Rattle.touch.specs.Touch.{along, vertex, centre, dotZ, reach, edge, cross, axisX, axisY, axisZ, axes, edgeOf, normal, withAxes, allAbove, allBelow, apart, someApart, touching}
-use Rattle.touch.specs.Slabs.{slabOf, threeOf, productsOf, slabsOf, kept, keptThree, keptAll, Corner, Corners, Far, Dir, Gentle, Gentles, Mild, Beside, Near}
+use Rattle.touch.specs.Slabs.{slabOf, threeOf, productsOf, slabsOf, kept, keptThree, keptAll, Corner, Corners, Far, Dir, Gentle, Gentles, Axial, Flat, Mild, Beside, Near}
 
 -- ---- ranges
 
@@ -99,10 +100,6 @@ near-beside c h = record { i-in = few (h .i-near); j-in = few (h .j-near); k-in 
     few : {n : ℕ} → n < 256 → In 255 (toZ w64 n)
     few h = in-eq (signed h) (record { bound = omega arith })
 
--- the same when they are handed on
-pub handed : {i j k : ℤ} → Beside i j k → Beside (toZ w64 (ofZ w64 i)) (toZ w64 (ofZ w64 j)) (toZ w64 (ofZ w64 k))
-handed h = record { i-in = v-in (arg tt (h .i-in)); j-in = v-in (arg tt (h .j-in)); k-in = v-in (arg tt (h .k-in)) }
-
 -- ---- the products of an edge with the axes
 
 less : (x y : ℤ) → x *ℤ pos 0 -ℤ y *ℤ pos 1 ≡ negℤ y
@@ -127,6 +124,33 @@ cross-y e = cons3 (less (along e 1) (along e 2)) (none (along e 2) (along e 0)) 
 pub cross-z : (e : List ℤ) → cross e axisZ ≡ along e 1 ∷ negℤ (along e 0) ∷ pos 0 ∷ []
 unfolding cross
 cross-z e = cons3 (more (along e 1) (along e 2)) (less (along e 2) (along e 0)) (none (along e 0) (along e 1))
+
+-- ---- projections on directions that have zeros
+
+no-x : (x y z i j k : ℤ) → x ≡ pos 0 → y *ℤ j +ℤ z *ℤ k ≡ x *ℤ i +ℤ y *ℤ j +ℤ z *ℤ k
+no-x x y z i j k e = sym (ap (λ (w : ℤ). w +ℤ y *ℤ j +ℤ z *ℤ k) (ap (λ (w : ℤ). w *ℤ i) e ∙ zero-*ℤ i) ∙ ap (λ (w : ℤ). w +ℤ z *ℤ k) (+ℤ-idl (y *ℤ j)))
+
+no-y : (x y z i j k : ℤ) → y ≡ pos 0 → x *ℤ i +ℤ z *ℤ k ≡ x *ℤ i +ℤ y *ℤ j +ℤ z *ℤ k
+no-y x y z i j k e = sym (ap (λ (w : ℤ). x *ℤ i +ℤ w +ℤ z *ℤ k) (ap (λ (w : ℤ). w *ℤ j) e ∙ zero-*ℤ j) ∙ ap (λ (w : ℤ). w +ℤ z *ℤ k) (+ℤ-idr (x *ℤ i)))
+
+no-z : (x y z i j k : ℤ) → z ≡ pos 0 → x *ℤ i +ℤ y *ℤ j ≡ x *ℤ i +ℤ y *ℤ j +ℤ z *ℤ k
+no-z x y z i j k e = sym (ap (λ (w : ℤ). x *ℤ i +ℤ y *ℤ j +ℤ w) (ap (λ (w : ℤ). w *ℤ k) e ∙ zero-*ℤ k) ∙ +ℤ-idr (x *ℤ i +ℤ y *ℤ j))
+
+nothing : (y j : ℤ) → y ≡ pos 0 → y *ℤ j ≡ pos 0
+nothing y j e = ap (λ (w : ℤ). w *ℤ j) e ∙ zero-*ℤ j
+
+pub axes-are : (s : Three) → Axial s → (i j k : ℤ)
+    → (s .x .x *ℤ i ≡ s .x .x *ℤ i +ℤ s .x .y *ℤ j +ℤ s .x .z *ℤ k) × (s .y .y *ℤ j ≡ s .y .x *ℤ i +ℤ s .y .y *ℤ j +ℤ s .y .z *ℤ k) × (s .z .z *ℤ k ≡ s .z .x *ℤ i +ℤ s .z .y *ℤ j +ℤ s .z .z *ℤ k)
+axes-are s h i j k = (
+  sym (+ℤ-idr (s .x .x *ℤ i)) ∙ ap (λ (w : ℤ). s .x .x *ℤ i +ℤ w) (sym (nothing (s .x .z) k (h .x-z))) ∙ no-y (s .x .x) (s .x .y) (s .x .z) i j k (h .x-y),
+  sym (+ℤ-idr (s .y .y *ℤ j)) ∙ ap (λ (w : ℤ). s .y .y *ℤ j +ℤ w) (sym (nothing (s .y .z) k (h .y-z))) ∙ no-x (s .y .x) (s .y .y) (s .y .z) i j k (h .y-x),
+  sym (+ℤ-idl (s .z .z *ℤ k)) ∙ ap (λ (w : ℤ). w +ℤ s .z .z *ℤ k) (sym (nothing (s .z .x) i (h .z-x))) ∙ no-y (s .z .x) (s .z .y) (s .z .z) i j k (h .z-y),
+)
+
+pub products-are : (s : Three) → Flat s → (i j k : ℤ)
+    → (s .x .y *ℤ j +ℤ s .x .z *ℤ k ≡ s .x .x *ℤ i +ℤ s .x .y *ℤ j +ℤ s .x .z *ℤ k) × (s .y .x *ℤ i +ℤ s .y .z *ℤ k ≡ s .y .x *ℤ i +ℤ s .y .y *ℤ j +ℤ s .y .z *ℤ k) × (s .z .x *ℤ i +ℤ s .z .y *ℤ j ≡ s .z .x *ℤ i +ℤ s .z .y *ℤ j +ℤ s .z .z *ℤ k)
+products-are s h i j k =
+    (no-x (s .x .x) (s .x .y) (s .x .z) i j k (h .x-x), no-y (s .y .x) (s .y .y) (s .y .z) i j k (h .y-y), no-z (s .z .x) (s .z .y) (s .z .z) i j k (h .z-z))
 
 -- ---- the cells that a slab leaves are those that its direction does not separate
 
@@ -220,6 +244,7 @@ slabs-touch t c =
     (none-of n (a ++ (b ++ e)) t c ∙ ap (λ (x : Bool). by n && x) (none-of a (b ++ e) t c ∙ ap (λ (x : Bool). by a && x) (none-of b e t c))))
 
 pub slabs-mild : (t : List (List ℤ)) → Corners t → Mild (slabsOf t)
+unfolding slabOf
 slabs-mild t h =
     record {
       axes-ok = record { x-ok = slab-gentle axisX t (axis-dir 1 0 0 tt tt tt) h; y-ok = slab-gentle axisY t (axis-dir 0 1 0 tt tt tt) h; z-ok = slab-gentle axisZ t (axis-dir 0 0 1 tt tt tt) h };
@@ -227,10 +252,17 @@ slabs-mild t h =
       edge01-ok = of-edge (edgeOf t 0 1) (side 0 1);
       edge12-ok = of-edge (edgeOf t 1 2) (side 1 2);
       edge20-ok = of-edge (edgeOf t 2 0) (side 2 0);
+      axes-axial = record { x-y = refl; x-z = refl; y-x = refl; y-z = refl; z-x = refl; z-y = refl };
+      edge01-flat = flat (edgeOf t 0 1);
+      edge12-flat = flat (edgeOf t 1 2);
+      edge20-flat = flat (edgeOf t 2 0);
     }
   where
     side : (a b : ℕ) → Far (edgeOf t a b)
     side a b = edge-in (h .at a) (h .at b)
+
+    flat : (e : List ℤ) → Flat (productsOf e t)
+    flat e = record { x-x = ap (λ (d : List ℤ). pos parts *ℤ along d 0) (cross-x e); y-y = ap (λ (d : List ℤ). pos parts *ℤ along d 1) (cross-y e); z-z = ap (λ (d : List ℤ). pos parts *ℤ along d 2) (cross-z e) }
 
     of-edge : (e : List ℤ) → Far e → Gentles (productsOf e t)
     of-edge e f =

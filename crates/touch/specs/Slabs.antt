@@ -1,5 +1,6 @@
 -- What the test of specs/Touch.antt comes to when that of a triangle is computed once: for each direction the cells that it leaves. proofs/Slabs.antt shows the two equal. Then the ranges. Definitions only.
 use mathlib.Core.Bool.{Bool, _&&_}
+use mathlib.Core.Path.{_≡_}
 use mathlib.Core.List.{List}
 use Prim.Native.Nat.{_<_}
 use lib.IntN.{ℤ, pos, _+ℤ_, _-ℤ_, _*ℤ_}
@@ -81,12 +82,30 @@ pub record Gentles (s : Three) : Type 0 where
   pub y-ok : Gentle (s .y)
   pub z-ok : Gentle (s .z)
 
+-- the axes have one coordinate each, and an edge's products with them two
+pub record Axial (s : Three) : Type 0 where
+  pub x-y : s .x .y ≡ pos 0
+  pub x-z : s .x .z ≡ pos 0
+  pub y-x : s .y .x ≡ pos 0
+  pub y-z : s .y .z ≡ pos 0
+  pub z-x : s .z .x ≡ pos 0
+  pub z-y : s .z .y ≡ pos 0
+
+pub record Flat (s : Three) : Type 0 where
+  pub x-x : s .x .x ≡ pos 0
+  pub y-y : s .y .y ≡ pos 0
+  pub z-z : s .z .z ≡ pos 0
+
 pub record Mild (s : Slabs) : Type 0 where
   pub axes-ok : Gentles (s .axes)
   pub normal-ok : Gentle (s .normal)
   pub edge01-ok : Gentles (s .edge01)
   pub edge12-ok : Gentles (s .edge12)
   pub edge20-ok : Gentles (s .edge20)
+  pub axes-axial : Axial (s .axes)
+  pub edge01-flat : Flat (s .edge01)
+  pub edge12-flat : Flat (s .edge12)
+  pub edge20-flat : Flat (s .edge20)
 
 pub record Beside (i j k : ℤ) : Type 0 where
   pub i-in : In 255 i

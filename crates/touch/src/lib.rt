@@ -6,7 +6,7 @@ ghost use lib.IntN.{pos, natAbs};
 ghost use Rattle.ints.specs.Bound.{In};
 ghost use Rattle.ints.specs.Order.{lesser, greater};
 ghost use Rattle.touch.specs.Touch.{dotZ, reach, edge, cross, normal, touching};
-ghost use Rattle.touch.specs.Slabs.{slabOf, threeOf, productsOf, slabsOf, kept, keptThree, keptAll, Dir, Far, Corner, Corners, Gentle, Gentles, Mild, Near, Beside};
+ghost use Rattle.touch.specs.Slabs.{slabOf, threeOf, productsOf, slabsOf, kept, keptThree, keptAll, Dir, Far, Corner, Corners, Gentle, Gentles, Axial, Flat, Mild, Near, Beside};
 use grid::Cell;
 
 // The cells that a direction does not separate: side * (direction . cell) is from low to high. x, y and z are
@@ -175,12 +175,37 @@ fn keeps(s: Slab, i: i64, j: i64, k: i64) -> bool
     (s.low <= p) & (p <= s.high)
 }
 
-fn keeps_three(s: Three, i: i64, j: i64, k: i64) -> bool
+// Of the axes: each slab has one coordinate that is not 0. What does not depend on i is left for a row's
+// loop to compute once.
+fn keeps_axes(s: Three, i: i64, j: i64, k: i64) -> bool
     requires { ⌜ Gentles s ⌝ }
+    requires { ⌜ Axial s ⌝ }
     requires { ⌜ Beside i j k ⌝ }
     ensures { λ b. ⌜ b ≡ keptThree s i j k ⌝ }
 {
-    keeps(s.x, i, j, k) & keeps(s.y, i, j, k) & keeps(s.z, i, j, k)
+    let px = s.x.x * i;
+    let py = s.y.y * j;
+    let pz = s.z.z * k;
+    let kx = (s.x.low <= px) & (px <= s.x.high);
+    let ky = (s.y.low <= py) & (py <= s.y.high);
+    let kz = (s.z.low <= pz) & (pz <= s.z.high);
+    kx & ky & kz
+}
+
+// Of an edge's products with the axes: each slab has a coordinate that is 0.
+fn keeps_products(s: Three, i: i64, j: i64, k: i64) -> bool
+    requires { ⌜ Gentles s ⌝ }
+    requires { ⌜ Flat s ⌝ }
+    requires { ⌜ Beside i j k ⌝ }
+    ensures { λ b. ⌜ b ≡ keptThree s i j k ⌝ }
+{
+    let px = s.x.y * j + s.x.z * k;
+    let py = s.y.x * i + s.y.z * k;
+    let pz = s.z.x * i + s.z.y * j;
+    let kx = (s.x.low <= px) & (px <= s.x.high);
+    let ky = (s.y.low <= py) & (py <= s.y.high);
+    let kz = (s.z.low <= pz) & (pz <= s.z.high);
+    kx & ky & kz
 }
 
 // Whether none of the thirteen separates the cell.
@@ -192,11 +217,11 @@ pub fn within(s: Slabs, c: Cell) -> bool
     let i = c.i as i64;
     let j = c.j as i64;
     let k = c.k as i64;
-    let axes = keeps_three(s.axes, i, j, k);
+    let axes = keeps_axes(s.axes, i, j, k);
     let normal = keeps(s.normal, i, j, k);
-    let edge01 = keeps_three(s.edge01, i, j, k);
-    let edge12 = keeps_three(s.edge12, i, j, k);
-    let edge20 = keeps_three(s.edge20, i, j, k);
+    let edge01 = keeps_products(s.edge01, i, j, k);
+    let edge12 = keeps_products(s.edge12, i, j, k);
+    let edge20 = keeps_products(s.edge20, i, j, k);
     axes & normal & edge01 & edge12 & edge20
 }
 

@@ -1,3 +1,4 @@
+-- `mesh::on_grid` meets its contract. Assumes nothing.
 use mir.Facts.{toZ-ofZ}
 use Rattle.mesh.specs.Mesh.{onAxis}
 -- `mesh::on_grid` meets its contract. Assumes nothing.

@@ -1,3 +1,4 @@
+-- `touch::span` meets its contract. Assumes nothing.
 use lib.Dec.{lit<}
 use Rattle.ints.specs.Bound.{arg, sized, lit, plus, times, v-in, v-add, v-mul, fits}
 use Rattle.touch.specs.Touch.{reach}

@@ -16,29 +16,29 @@ cast-j c = search needs
 cast-k : tie.Need-cast-k
 cast-k c = search needs
 
-keeps-three-requires : tie.Need-keeps-three-requires
-keeps-three-requires c κs = (c .before .before .before .pre .0 .axes-ok, near-beside (c .before .before .before .args .c) (c .before .before .before .pre .1))
+keeps-axes-requires : tie.Need-keeps-axes-requires
+keeps-axes-requires c κs = (c .before .before .before .pre .0 .axes-ok, (c .before .before .before .pre .0 .axes-axial, near-beside (c .before .before .before .args .c) (c .before .before .before .pre .1)))
 
 keeps-requires : tie.Need-keeps-requires
 keeps-requires c κs = (c .before .before .before .before .pre .0 .normal-ok, near-beside (c .before .before .before .before .args .c) (c .before .before .before .before .pre .1))
 
-keeps-three-requires-2 : tie.Need-keeps-three-requires-2
-keeps-three-requires-2 c κs = (c .before .before .before .before .before .pre .0 .edge01-ok, near-beside (c .before .before .before .before .before .args .c) (c .before .before .before .before .before .pre .1))
+keeps-products-requires : tie.Need-keeps-products-requires
+keeps-products-requires c κs = (c .before .before .before .before .before .pre .0 .edge01-ok, (c .before .before .before .before .before .pre .0 .edge01-flat, near-beside (c .before .before .before .before .before .args .c) (c .before .before .before .before .before .pre .1)))
 
-keeps-three-requires-3 : tie.Need-keeps-three-requires-3
-keeps-three-requires-3 c κs = (c .before .before .before .before .before .before .pre .0 .edge12-ok, near-beside (c .before .before .before .before .before .before .args .c) (c .before .before .before .before .before .before .pre .1))
+keeps-products-requires-2 : tie.Need-keeps-products-requires-2
+keeps-products-requires-2 c κs = (c .before .before .before .before .before .before .pre .0 .edge12-ok, (c .before .before .before .before .before .before .pre .0 .edge12-flat, near-beside (c .before .before .before .before .before .before .args .c) (c .before .before .before .before .before .before .pre .1)))
 
-keeps-three-requires-4 : tie.Need-keeps-three-requires-4
-keeps-three-requires-4 c κs = (c .before .before .before .before .before .before .before .pre .0 .edge20-ok, near-beside (c .before .before .before .before .before .before .before .args .c) (c .before .before .before .before .before .before .before .pre .1))
+keeps-products-requires-3 : tie.Need-keeps-products-requires-3
+keeps-products-requires-3 c κs = (c .before .before .before .before .before .before .before .pre .0 .edge20-ok, (c .before .before .before .before .before .before .before .pre .0 .edge20-flat, near-beside (c .before .before .before .before .before .before .before .args .c) (c .before .before .before .before .before .before .before .pre .1)))
 
 returns : tie.Need-returns
 unfolding keptAll
 returns c =
-    let p = c .before .before .before .before .keeps-three .ensures in
+    let p = c .before .before .before .before .keeps-axes .ensures in
     let q = c .before .before .before .keeps .ensures in
-    let u = c .before .before .keeps-three2 .ensures in
-    let v = c .before .keeps-three3 .ensures in
-    let w = c .keeps-three4 .ensures in
+    let u = c .before .before .keeps-products .ensures in
+    let v = c .before .keeps-products2 .ensures in
+    let w = c .keeps-products3 .ensures in
     let near = c .before .before .before .before .before .before .before .before .pre .1 in
     let i = signed (near .i-near) in
     let j = signed (near .j-near) in
@@ -52,9 +52,9 @@ within-spec =
     cast-i
     cast-j
     cast-k
-    keeps-three-requires
+    keeps-axes-requires
     keeps-requires
-    keeps-three-requires-2
-    keeps-three-requires-3
-    keeps-three-requires-4
+    keeps-products-requires
+    keeps-products-requires-2
+    keeps-products-requires-3
     returns)
