@@ -1,9 +1,11 @@
 -- A vertex's coordinate (p - origin) * (1 / scale), each operation rounded once, is at most 2 ^ 39 after the refusals 3 and 5, so it has its whole number of parts: rounding lifts nothing past a power of two. Assumes nothing.
 use mathlib.Core.Path.{_≡_, refl, sym, ap, _∙_, subst}
 use mathlib.Core.Bool.{Bool, true, false, not, cond, _&&_, _||_, Bool·beq, true≢false, false≢true}
+use mathlib.Core.List.{List, [], _∷_}
 use Prim.Native.Nat.{ℕ, _+_, _-_, _*_, _^_, _≤_, _<_}
 use native.Mathlib.Nat.{le-trans, le-of-eq, mul-one, one-mul, mul-comm, mul-assoc, mul-pos, mul-le-mul, mul-le-mul-right, mul-mul-mul-comm}
 use native.Mathlib.Omega.{arith}
+use lib.ListN.{length, getD}
 use lib.Dec.{T, ltb, eqb, ltb→lt, eqb→eq, lit<}
 use lib.IntN.{ℤ, pos}
 use lib.Pow.{pow-pos, pow-add, pow-lt}
@@ -13,11 +15,18 @@ use lib.Ieee.Exact.{round-exact}
 use lib.Ieee.Positive.{positive, between, le→cross, through}
 use borrow.Author.Tests.{lt-ltb, le-leb, leb-true, ne-eqb}
 use Rattle.numbers.specs.declared.Whole.the-variants.{Of, TooLarge}
-use Rattle.numbers.specs.Rounding.{limit, pickWhole, within, nearestOf}
+use Rattle.numbers.specs.Rounding.{parts, limit, pickWhole, within, nearestOf}
 use Rattle.numbers.proofs.Sign.{round-negated}
-use Rattle.sizing.specs.Points.{bounded}
+use Rattle.sizing.specs.Points.{bounded, numbersFault}
 use Rattle.sizing.proofs.Ratio.{Capped, Exact, round-capped}
-use Rattle.mesh.specs.Faults.{leastScale, greatestScale}
+use Rattle.grid.specs.declared.Checked.the-variants.{Fine}
+use Rattle.grid.specs.declared.Placement.{Placement}
+use Rattle.grid.proofs.Checks.{passed, both-fine, first-fine}
+use Rattle.ints.specs.Bound.{cons3}
+use Rattle.sizing.specs.Sizing.{points, coord}
+use Rattle.mesh.specs.Mesh.{wholeParts, partsAt, vertexOf}
+use Rattle.mesh.specs.Faults.{originFault, leastScale, greatestScale, lentFault, lentNumbersFault}
+use Rattle.mesh.proofs.Laws.{both-l, both-r, within-points}
 
 -- ---- a rounded fraction
 
@@ -169,3 +178,47 @@ pub whole : (k : ℕ) (p o scale reciprocal : Float) → bounded 20 p ≡ true �
     → eq reciprocal (div binary32 (fin false 1 (pos 0)) scale) ≡ true
     → (q : ℤ) × (nearestOf k (mul binary32 (sub binary32 p o) reciprocal) ≡ Of q)
 whole k p o scale reciprocal P O least greatest is = bounded-whole k (mul binary32 (sub binary32 p o) reciprocal) (within-reach p o scale reciprocal P O least greatest is)
+
+-- ---- of a mesh that passed 3 and 5: every number is bounded, so every coordinate of a vertex is a whole number of parts, and the place that stands for what is none never shows
+
+pub record Bounded (ps : List Float) (at : Placement) : Type 0 where
+  pub origin-x : bounded 20 (at .x) ≡ true
+  pub origin-y : bounded 20 (at .y) ≡ true
+  pub origin-z : bounded 20 (at .z) ≡ true
+  pub points-in : (k : ℕ) → k < length ps → bounded 20 (getD ps k nan) ≡ true
+
+pub numbers-bounded : (ps : List Float) (at : Placement) → lentNumbersFault ps at ≡ Fine → Bounded ps at
+numbers-bounded ps at h =
+    let w = both-fine (originFault at) (numbersFault 3 ps) h in
+    let o = first-fine 3 (λ n. 0 + n) (bounded 20) nan (at .x ∷ at .y ∷ at .z ∷ []) .0 (w .0) in
+    record { origin-x = o 0 (lit< tt); origin-y = o 1 (lit< tt); origin-z = o 2 (lit< tt); points-in = first-fine 3 (λ n. 3 + n) (bounded 20) nan ps .0 (w .1) }
+
+-- one coordinate
+coordinate-whole : (at : Placement) → lentFault at ≡ Fine → (p o : Float) → bounded 20 p ≡ true → bounded 20 o ≡ true
+    → (q : ℤ) × (nearestOf parts (mul binary32 (sub binary32 p o) (at .reciprocal)) ≡ Of q) × (partsAt p o (at .reciprocal) ≡ q)
+unfolding partsAt wholeParts
+coordinate-whole at h p o P O =
+    let s = at .scale in
+    let r = eq (at .reciprocal) (div binary32 (fin false 1 (pos 0)) s) in
+    let all = not-no (le leastScale s && le s greatestScale && r) (passed _ 5 0 Fine h .0) in
+    let ends = both-l (le leastScale s && le s greatestScale) r all in
+    let w = whole parts p o s (at .reciprocal) P O (both-l (le leastScale s) (le s greatestScale) ends) (both-r (le leastScale s) (le s greatestScale) ends) (both-r (le leastScale s && le s greatestScale) r all) in
+    (w .0, w .1, ap wholeParts (w .1))
+  where
+    not-no : (b : Bool) → not b ≡ false → b ≡ true
+    not-no true e = refl
+    not-no false e = absurd (true≢false e)
+
+-- every vertex: its coordinates are the q that 01 names, of the exact t
+pub vertex-whole : (ps : List Float) (at : Placement) → lentNumbersFault ps at ≡ Fine → lentFault at ≡ Fine → (v : ℕ) → v < points ps
+    → (x y z : ℤ) × (vertexOf ps at v ≡ x ∷ y ∷ z ∷ [])
+    × (nearestOf parts (mul binary32 (sub binary32 (coord ps 0 v) (at .x)) (at .reciprocal)) ≡ Of x)
+    × (nearestOf parts (mul binary32 (sub binary32 (coord ps 1 v) (at .y)) (at .reciprocal)) ≡ Of y)
+    × (nearestOf parts (mul binary32 (sub binary32 (coord ps 2 v) (at .z)) (at .reciprocal)) ≡ Of z)
+vertex-whole ps at h f v l =
+    let b = numbers-bounded ps at h in
+    let n = within-points (length ps) v l in
+    let x = coordinate-whole at f (coord ps 0 v) (at .x) (b .points-in (3 * v + 0) (omega arith)) (b .origin-x) in
+    let y = coordinate-whole at f (coord ps 1 v) (at .y) (b .points-in (3 * v + 1) (omega arith)) (b .origin-y) in
+    let z = coordinate-whole at f (coord ps 2 v) (at .z) (b .points-in (3 * v + 2) n) (b .origin-z) in
+    (x .0, y .0, z .0, cons3 (x .2) (y .2) (z .2), x .1, y .1, z .1)

@@ -18,7 +18,7 @@ use Rattle.touch.specs.Touch.{along, vertex}
 
 -- ---- a vertex on the grid
 
--- a number of parts. After the refusals 3 and 5 it is always whole (`whole` in proofs/Reach.antt); for the rest, what is too large or no number stands a cell before the first, so that it falls on no cell
+-- a number of parts. After the refusals 3 and 5 it is always whole (`vertex-whole` in proofs/Reach.antt); for the rest, what is too large or no number stands a cell before the first, so that it falls on no cell
 unfoldable pub wholeParts : Whole → ℤ
 wholeParts (Of q) = q
 wholeParts TooLarge = negℤ (pos parts)
