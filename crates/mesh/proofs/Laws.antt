@@ -3,7 +3,7 @@ use mathlib.Core.Path.{_≡_, refl, sym, ap, _∙_}
 use mathlib.Core.Bool.{Bool, true, false, _&&_, cond, true≢false}
 use mathlib.Core.Logic.{_⊎_, inl, inr, ⊎-elim}
 use mathlib.Core.List.{List}
-use Prim.Native.Nat.{ℕ, zero, suc, _+_, _*_, _/_, _≤_, _<_}
+use Prim.Native.Nat.{ℕ, zero, suc, _+_, _*_, _/_, _≤_, _<_, _^_}
 use native.Mathlib.Nat.{le-refl, div-add-mod}
 use native.Mathlib.Omega.{arith}
 use lib.Dec.{ltb}
@@ -72,7 +72,7 @@ on-held n q h = go (cellOf q) refl h
 pub on-axis-held : (n : ℕ) (q : ℤ) → Axis n → onAxis n q ≡ true → Held (cellOf q)
 on-axis-held n q a h = let w = on-held n q h in record { number = w .0; is = w .1; small = omega (arith, w .2, a .most) }
 
-pub on-bound : (n : ℕ) (q : ℤ) → Axis n → onAxis n q ≡ true → In 262144 q
+pub on-bound : (n : ℕ) (q : ℤ) → Axis n → onAxis n q ≡ true → In (2 ^ 18) q
 on-bound n q a h =
     let w = on-held n q h in
     let i = w .0 in
@@ -144,7 +144,7 @@ on-cells ps ts r at g t h =
 pub corners : (ps : List Float) (ts : List ℕ) (r : Axes) (at : Placement) (t : ℕ) → Sound r → OnCells r (triangleOf ps ts at t) → Corners (triangleOf ps ts at t)
 corners ps ts r at t s o = every3 (each (corner ts 0 t) (o .on0)) (each (corner ts 1 t) (o .on1)) (each (corner ts 2 t) (o .on2))
   where
-    each : (v : ℕ) → onGrid r (vertexOf ps at v) ≡ true → Each 262144 (vertexOf ps at v)
+    each : (v : ℕ) → onGrid r (vertexOf ps at v) ≡ true → Each (2 ^ 18) (vertexOf ps at v)
     each v h =
         let u = vertexOf ps at v in
         in3 (on-bound (r .r0) (along u 0) (s .axis0) (on-i r u h)) (on-bound (r .r1) (along u 1) (s .axis1) (on-j r u h)) (on-bound (r .r2) (along u 2) (s .axis2) (on-k r u h))

@@ -2,7 +2,7 @@
 use mathlib.Core.Bool.{Bool, true, _&&_}
 use mathlib.Core.Path.{_≡_}
 use mathlib.Core.List.{List}
-use Prim.Native.Nat.{ℕ, _<_, _≤_}
+use Prim.Native.Nat.{ℕ, _<_}
 use lib.Dec.{leb, ltb}
 use lib.IntN.{ℤ, pos}
 use lib.ListN.{length, getD}
@@ -10,7 +10,6 @@ use lib.Ieee.{Float}
 use Rattle.grid.specs.declared.Axes.{Axes}
 use Rattle.grid.specs.declared.Cell.{Cell}
 use Rattle.grid.specs.declared.Placement.{Placement}
-use Rattle.grid.specs.Grid.{Sound}
 use Rattle.sizing.specs.Sizing.{points}
 use Rattle.touch.specs.Touch.{vertex}
 use Rattle.mesh.specs.declared.Ends.{Ends}
@@ -24,13 +23,6 @@ pub record Named (ps : List Float) (ts : List ℕ) : Type 0 where
 -- and falls on a cell
 pub record OnGrid (ps : List Float) (ts : List ℕ) (r : Axes) (at : Placement) : Type 0 where
   pub falls : (k : ℕ) → k < length ts → onGrid r (vertexOf ps at (getD ts k 0)) ≡ true
-
--- what a mesh without fault is
-pub record Placed (ps : List Float) (ts : List ℕ) (r : Axes) (at : Placement) : Type 0 where
-  pub named : Named ps ts
-  pub sound : Sound r
-  pub on : OnGrid ps ts r at
-  pub few : length ts ≤ 196608
 
 -- a triangle whose vertices fall on cells
 pub record OnCells (r : Axes) (t : List (List ℤ)) : Type 0 where

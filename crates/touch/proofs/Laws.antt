@@ -87,8 +87,8 @@ slab-gentle d t h k =
       high-in = in-up _ tt (in-add (greater-in (greater-in a b) c) (reach-in h));
     }
   where
-    scaled : {z : ℤ} → In 549755813888 z → In 562949953421312 (pos parts *ℤ z)
-    scaled h = in-up 562949953421312 tt (in-mul (in-lit parts (pos parts) tt) h)
+    scaled : {z : ℤ} → In (2 ^ 39) z → In (2 ^ 49) (pos parts *ℤ z)
+    scaled h = in-up (2 ^ 49) tt (in-mul (in-lit parts (pos parts) tt) h)
 
 -- a cell's coordinates as signed numbers
 pub signed : {n : ℕ} → n < 256 → toZ w64 n ≡ pos n

@@ -1,8 +1,8 @@
--- What the test of specs/Touch.antt comes to when that of a triangle is computed once: for each direction the cells that it leaves. proofs/Slabs.antt shows the two equal. Then the ranges. Definitions only.
+-- What the test of specs/Touch.antt comes to when that of a triangle is computed once: for each direction the cells that it leaves. proofs/Laws.antt shows the two equal (`slabs-touch`). Then the ranges. Definitions only.
 use mathlib.Core.Bool.{Bool, _&&_}
 use mathlib.Core.Path.{_≡_}
 use mathlib.Core.List.{List}
-use Prim.Native.Nat.{_<_}
+use Prim.Native.Nat.{_<_, _^_}
 use lib.IntN.{ℤ, pos, _+ℤ_, _-ℤ_, _*ℤ_}
 use lib.Signed.{leZ}
 use Rattle.grid.specs.declared.Cell.{Cell}
@@ -59,23 +59,23 @@ keptAll s c = keptAt s (pos (c .i)) (pos (c .j)) (pos (c .k))
 -- ---- the ranges, which hold for up to 1,024 parts of a side: of a vertex's coordinate 2 ^ 18, of an edge's 2 ^ 19, of a direction's 2 ^ 39, of a direction's times the side 2 ^ 49, of a slab's ends 2 ^ 59, of a cell's 255
 
 abbrev pub Corner : List ℤ → Type 0
-Corner v = Each 262144 v
+Corner v = Each (2 ^ 18) v
 
 abbrev pub Corners : List (List ℤ) → Type 0
-Corners t = Every 262144 t
+Corners t = Every (2 ^ 18) t
 
 abbrev pub Far : List ℤ → Type 0
-Far v = Each 524288 v
+Far v = Each (2 ^ 19) v
 
 abbrev pub Dir : List ℤ → Type 0
-Dir d = Each 549755813888 d
+Dir d = Each (2 ^ 39) d
 
 pub record Gentle (s : Slab) : Type 0 where
-  pub x-in : In 562949953421312 (s .x)
-  pub y-in : In 562949953421312 (s .y)
-  pub z-in : In 562949953421312 (s .z)
-  pub low-in : In 576460752303423488 (s .low)
-  pub high-in : In 576460752303423488 (s .high)
+  pub x-in : In (2 ^ 49) (s .x)
+  pub y-in : In (2 ^ 49) (s .y)
+  pub z-in : In (2 ^ 49) (s .z)
+  pub low-in : In (2 ^ 59) (s .low)
+  pub high-in : In (2 ^ 59) (s .high)
 
 pub record Gentles (s : Three) : Type 0 where
   pub x-ok : Gentle (s .x)

@@ -2,6 +2,7 @@
 // the triangle alone is computed once: each direction leaves of all cells a slab of those that it does not
 // separate from the triangle.
 ghost use mathlib.Core.Path.{_≡_};
+ghost use Prim.Native.Nat.{_^_};
 ghost use lib.IntN.{pos, natAbs};
 ghost use Rattle.ints.specs.Bound.{In};
 ghost use Rattle.ints.specs.Order.{lesser, greater};
@@ -36,7 +37,7 @@ pub struct Slabs {
 }
 
 fn abs(x: i64) -> i64
-    requires { ⌜ In 549755813888 x ⌝ }
+    requires { ⌜ In (2 ^ 39) x ⌝ }
     ensures { λ r. ⌜ r ≡ pos (natAbs x) ⌝ }
 {
     if x < 0 { -x } else { x }
