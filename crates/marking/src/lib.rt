@@ -3,7 +3,7 @@ ghost use mathlib.Core.Bool.{cond};
 ghost use mathlib.Core.Path.{_≡_};
 ghost use Prim.Native.Nat.{_≤_, _<_};
 ghost use lib.ListN.{length, replicate};
-ghost use Rattle.touch.specs.Slabs.{Mild};
+ghost use Rattle.touch.specs.Slabs.{SlabsFit};
 ghost use Rattle.mesh.specs.Mesh.{triangles};
 ghost use Rattle.marking.specs.Marked.{outcome, hits, isSurface, markAnswer, markLabels};
 ghost use Rattle.marking.specs.Painted.{Painted, leftIn, rowOf, layerOf, Sheet, Ready};
@@ -41,7 +41,7 @@ fn mark_if(touched: bool, label: u8) -> u8
 // The cells of a row, in memory order.
 fn mark_row(labels: &mut [u8], s: Slabs, r: Axes, e: Ends, j: usize, k: usize)
     requires { ⌜ Sheet r (now labels) ⌝ }
-    requires { ⌜ Mild s ⌝ }
+    requires { ⌜ SlabsFit s ⌝ }
     requires { ⌜ (e .to ≤ r .r0) × (j < r .r1) × (k < r .r2) ⌝ }
     ensures { λ _. ⌜ Painted r (leftIn (rowOf e j k) s) (now (labels .entry)) (now (labels .exit)) ⌝ }
 {
@@ -58,7 +58,7 @@ fn mark_row(labels: &mut [u8], s: Slabs, r: Axes, e: Ends, j: usize, k: usize)
 
 fn mark_layer(labels: &mut [u8], s: Slabs, r: Axes, b: Block, k: usize)
     requires { ⌜ Sheet r (now labels) ⌝ }
-    requires { ⌜ Mild s ⌝ }
+    requires { ⌜ SlabsFit s ⌝ }
     requires { ⌜ (b .i .to ≤ r .r0) × (b .j .to ≤ r .r1) × (k < r .r2) ⌝ }
     ensures { λ _. ⌜ Painted r (leftIn (layerOf b k) s) (now (labels .entry)) (now (labels .exit)) ⌝ }
 {
@@ -73,7 +73,7 @@ fn mark_layer(labels: &mut [u8], s: Slabs, r: Axes, b: Block, k: usize)
 
 fn mark_block(labels: &mut [u8], s: Slabs, r: Axes, b: Block)
     requires { ⌜ Sheet r (now labels) ⌝ }
-    requires { ⌜ Mild s ⌝ }
+    requires { ⌜ SlabsFit s ⌝ }
     requires { ⌜ (b .i .to ≤ r .r0) × (b .j .to ≤ r .r1) × (b .k .to ≤ r .r2) ⌝ }
     ensures { λ _. ⌜ Painted r (leftIn b s) (now (labels .entry)) (now (labels .exit)) ⌝ }
 {

@@ -32,7 +32,7 @@ use Rattle.numbers.proofs.Laws.{Fitting, nearest-fits, cell-fits}
 use Rattle.sizing.specs.Points.{lengthFault}
 use Rattle.sizing.specs.Sizing.{points}
 use Rattle.touch.specs.Touch.{along, vertex}
-use Rattle.touch.specs.Slabs.{Corners}
+use Rattle.touch.specs.Slabs.{TriangleFits}
 use Rattle.touch.proofs.Meaning.{cell-near}
 use Rattle.mesh.specs.declared.Ends.{Ends}
 use Rattle.mesh.specs.declared.Block.{Block}
@@ -141,7 +141,7 @@ on-cells ps ts r at g t h =
     let l = within-points (length ts) t h in
     record { on0 = g .falls (3 * t + 0) (omega arith); on1 = g .falls (3 * t + 1) (omega arith); on2 = g .falls (3 * t + 2) l }
 
-pub corners : (ps : List Float) (ts : List ℕ) (r : Axes) (at : Placement) (t : ℕ) → Sound r → OnCells r (triangleOf ps ts at t) → Corners (triangleOf ps ts at t)
+pub corners : (ps : List Float) (ts : List ℕ) (r : Axes) (at : Placement) (t : ℕ) → Sound r → OnCells r (triangleOf ps ts at t) → TriangleFits (triangleOf ps ts at t)
 corners ps ts r at t s o = every3 (each (corner ts 0 t) (o .on0)) (each (corner ts 1 t) (o .on1)) (each (corner ts 2 t) (o .on2))
   where
     each : (v : ℕ) → onGrid r (vertexOf ps at v) ≡ true → Each (2 ^ 18) (vertexOf ps at v)

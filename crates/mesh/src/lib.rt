@@ -155,7 +155,7 @@ fn lent_numbers_fault(ps: &[f32], at: Placement) -> Checked
     grid::and_then(of_origin, of_points)
 }
 
-// Refusals 1 to 9 of a mesh on a grid with a label buffer of this length.
+// Refusals 1 to 5, 8 and 9 of a mesh on a grid with a label buffer of this length.
 fn input_fault(ps: &[f32], ts: &[u32], r: Axes, at: Placement, len: usize) -> Checked
     ensures { λ f. ⌜ f ≡ inputFault (now (ps .entry)) (now (ts .entry)) r at len ⌝ }
 {
@@ -196,7 +196,7 @@ fn off_fault(ps: &[f32], ts: &[u32], r: Axes, at: Placement) -> Checked
     corner_fault(10, first_off(ps, ts, r, at), ts.len())
 }
 
-// Refusals 1 to 10 of a mesh on a grid with a label buffer of this length.
+// Refusals 1 to 5, 8, 9 and 10 of a mesh on a grid with a label buffer of this length.
 pub fn mesh_fault(ps: &[f32], ts: &[u32], r: Axes, at: Placement, len: usize) -> Checked
     ensures { λ f. ⌜ f ≡ meshFault (now (ps .entry)) (now (ts .entry)) r at len ⌝ }
 {

@@ -18,23 +18,23 @@ use Rattle.ints.specs.Order.{lesser, greater, le-not, lt-lesser, lt-greater, lt
 use Rattle.ints.specs.Ring.{ap3, mul-assoc}
 use Rattle.touch.specs.declared.Three.{Three}
 use Rattle.touch.specs.Touch.{along, vertex, centre, dotZ, reach, edge, cross, axisX, axisY, axisZ, axes, edgeOf, normal, withAxes, allAbove, allBelow, apart, someApart, touching}
-use Rattle.touch.specs.Slabs.{slabOf, threeOf, productsOf, slabsOf, kept, keptThree, keptAll, Corner, Corners, Far, Dir, Gentle, Gentles, Axial, Flat, Mild, Beside, Near}
+use Rattle.touch.specs.Slabs.{slabOf, threeOf, productsOf, slabsOf, kept, keptThree, keptAll, VertexFits, TriangleFits, EdgeFits, DirectionFits, SlabFits, ThreeFit, Axial, Flat, SlabsFit, CoordinatesFit, CellFits}
 
 -- ---- ranges
 
-pub dot-in : {d v : List ℤ} → Dir d → Corner v → In 432345564227567616 (dotZ d v)
+pub dot-in : {d v : List ℤ} → DirectionFits d → VertexFits v → In 432345564227567616 (dotZ d v)
 unfolding dotZ
 dot-in h k = in-add (in-add (in-mul (h .at 0) (k .at 0)) (in-mul (h .at 1) (k .at 1))) (in-mul (h .at 2) (k .at 2))
 
-pub reach-in : {d : List ℤ} → Dir d → In 844424930131968 (reach d)
+pub reach-in : {d : List ℤ} → DirectionFits d → In 844424930131968 (reach d)
 unfolding reach
 reach-in h = in-up 844424930131968 tt (in-mul (in-lit half (pos half) tt) (in-add (in-add (in-abs (h .at 0)) (in-abs (h .at 1))) (in-abs (h .at 2))))
 
-pub edge-in : {a b : List ℤ} → Corner a → Corner b → Far (edge a b)
+pub edge-in : {a b : List ℤ} → VertexFits a → VertexFits b → EdgeFits (edge a b)
 unfolding edge
 edge-in h k = in3 (in-sub (k .at 0) (h .at 0)) (in-sub (k .at 1) (h .at 1)) (in-sub (k .at 2) (h .at 2))
 
-pub cross-in : {a b : List ℤ} → Far a → Far b → Dir (cross a b)
+pub cross-in : {a b : List ℤ} → EdgeFits a → EdgeFits b → DirectionFits (cross a b)
 unfolding cross
 cross-in h k =
     in3
@@ -67,15 +67,15 @@ module _ {B : ℕ} {r m n x y : ℤ} (t : T (ltb B (2 ^ 63))) where
 axis-in : {B : ℕ} (x y z : ℕ) → T (leb x 1) → T (leb y 1) → T (leb z 1) → T (leb 1 B) → Each B (pos x ∷ pos y ∷ pos z ∷ [])
 axis-in {B} x y z p q r b = in3 (in-up B b (in-lit 1 (pos x) p)) (in-up B b (in-lit 1 (pos y) q)) (in-up B b (in-lit 1 (pos z) r))
 
-pub axis-dir : (x y z : ℕ) → T (leb x 1) → T (leb y 1) → T (leb z 1) → Dir (pos x ∷ pos y ∷ pos z ∷ [])
+pub axis-dir : (x y z : ℕ) → T (leb x 1) → T (leb y 1) → T (leb z 1) → DirectionFits (pos x ∷ pos y ∷ pos z ∷ [])
 axis-dir x y z p q r = axis-in x y z p q r tt
 
-pub products-dir : (e : List ℤ) → Far e → Dir (cross e axisX) × Dir (cross e axisY) × Dir (cross e axisZ)
+pub products-dir : (e : List ℤ) → EdgeFits e → DirectionFits (cross e axisX) × DirectionFits (cross e axisY) × DirectionFits (cross e axisZ)
 products-dir e h = (cross-in h (axis-in 1 0 0 tt tt tt tt), cross-in h (axis-in 0 1 0 tt tt tt tt), cross-in h (axis-in 0 0 1 tt tt tt tt))
 
-pub slab-gentle : (d : List ℤ) (t : List (List ℤ)) → Dir d → Corners t → Gentle (slabOf d t)
+pub slab-fits : (d : List ℤ) (t : List (List ℤ)) → DirectionFits d → TriangleFits t → SlabFits (slabOf d t)
 unfolding slabOf
-slab-gentle d t h k =
+slab-fits d t h k =
     let a = dot-in h (k .at 0) in
     let b = dot-in h (k .at 1) in
     let c = dot-in h (k .at 2) in
@@ -94,8 +94,8 @@ slab-gentle d t h k =
 pub signed : {n : ℕ} → n < 256 → toZ w64 n ≡ pos n
 signed h = of-unsigned (lt-trans h (lit< tt))
 
-pub near-beside : (c : Cell) → Near c → Beside (toZ w64 (c .i)) (toZ w64 (c .j)) (toZ w64 (c .k))
-near-beside c h = record { i-in = few (h .i-near); j-in = few (h .j-near); k-in = few (h .k-near) }
+pub cell-coordinates : (c : Cell) → CellFits c → CoordinatesFit (toZ w64 (c .i)) (toZ w64 (c .j)) (toZ w64 (c .k))
+cell-coordinates c h = record { i-in = few (h .i-near); j-in = few (h .j-near); k-in = few (h .k-near) }
   where
     few : {n : ℕ} → n < 256 → In 255 (toZ w64 n)
     few h = in-eq (signed h) (record { bound = omega arith })
@@ -243,12 +243,12 @@ slabs-touch t c =
     ∙ ap (λ (x : Bool). by axes && x)
     (none-of n (a ++ (b ++ e)) t c ∙ ap (λ (x : Bool). by n && x) (none-of a (b ++ e) t c ∙ ap (λ (x : Bool). by a && x) (none-of b e t c))))
 
-pub slabs-mild : (t : List (List ℤ)) → Corners t → Mild (slabsOf t)
+pub slabs-fit : (t : List (List ℤ)) → TriangleFits t → SlabsFit (slabsOf t)
 unfolding slabOf
-slabs-mild t h =
+slabs-fit t h =
     record {
-      axes-ok = record { x-ok = slab-gentle axisX t (axis-dir 1 0 0 tt tt tt) h; y-ok = slab-gentle axisY t (axis-dir 0 1 0 tt tt tt) h; z-ok = slab-gentle axisZ t (axis-dir 0 0 1 tt tt tt) h };
-      normal-ok = slab-gentle (normal t) t (cross-in (side 0 1) (side 1 2)) h;
+      axes-ok = record { x-ok = slab-fits axisX t (axis-dir 1 0 0 tt tt tt) h; y-ok = slab-fits axisY t (axis-dir 0 1 0 tt tt tt) h; z-ok = slab-fits axisZ t (axis-dir 0 0 1 tt tt tt) h };
+      normal-ok = slab-fits (normal t) t (cross-in (side 0 1) (side 1 2)) h;
       edge01-ok = of-edge (edgeOf t 0 1) (side 0 1);
       edge12-ok = of-edge (edgeOf t 1 2) (side 1 2);
       edge20-ok = of-edge (edgeOf t 2 0) (side 2 0);
@@ -258,13 +258,13 @@ slabs-mild t h =
       edge20-flat = flat (edgeOf t 2 0);
     }
   where
-    side : (a b : ℕ) → Far (edgeOf t a b)
+    side : (a b : ℕ) → EdgeFits (edgeOf t a b)
     side a b = edge-in (h .at a) (h .at b)
 
     flat : (e : List ℤ) → Flat (productsOf e t)
     flat e = record { x-x = ap (λ (d : List ℤ). pos parts *ℤ along d 0) (cross-x e); y-y = ap (λ (d : List ℤ). pos parts *ℤ along d 1) (cross-y e); z-z = ap (λ (d : List ℤ). pos parts *ℤ along d 2) (cross-z e) }
 
-    of-edge : (e : List ℤ) → Far e → Gentles (productsOf e t)
+    of-edge : (e : List ℤ) → EdgeFits e → ThreeFit (productsOf e t)
     of-edge e f =
         let d = products-dir e f in
-        record { x-ok = slab-gentle (cross e axisX) t (d .0) h; y-ok = slab-gentle (cross e axisY) t (d .1) h; z-ok = slab-gentle (cross e axisZ) t (d .2) h }
+        record { x-ok = slab-fits (cross e axisX) t (d .0) h; y-ok = slab-fits (cross e axisY) t (d .1) h; z-ok = slab-fits (cross e axisZ) t (d .2) h }

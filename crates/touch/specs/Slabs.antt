@@ -56,33 +56,36 @@ keptAt s i j k =
 unfoldable pub keptAll : Slabs → Cell → Bool
 keptAll s c = keptAt s (pos (c .i)) (pos (c .j)) (pos (c .k))
 
--- ---- the ranges, which hold for up to 1,024 parts of a side: of a vertex's coordinate 2 ^ 18, of an edge's 2 ^ 19, of a direction's 2 ^ 39, of a direction's times the side 2 ^ 49, of a slab's ends 2 ^ 59, of a cell's 255
+-- ---- the ranges, which hold for up to 1,024 parts of a side
 
-abbrev pub Corner : List ℤ → Type 0
-Corner v = Each (2 ^ 18) v
+-- the coordinates of a vertex that falls on one of 256 cells a side, and of a triangle's three
+abbrev pub VertexFits : List ℤ → Type 0
+VertexFits v = Each (2 ^ 18) v
 
-abbrev pub Corners : List (List ℤ) → Type 0
-Corners t = Every (2 ^ 18) t
+abbrev pub TriangleFits : List (List ℤ) → Type 0
+TriangleFits t = Every (2 ^ 18) t
 
-abbrev pub Far : List ℤ → Type 0
-Far v = Each (2 ^ 19) v
+-- of the difference of two vertices, and of the product of two differences
+abbrev pub EdgeFits : List ℤ → Type 0
+EdgeFits v = Each (2 ^ 19) v
 
-abbrev pub Dir : List ℤ → Type 0
-Dir d = Each (2 ^ 39) d
+abbrev pub DirectionFits : List ℤ → Type 0
+DirectionFits d = Each (2 ^ 39) d
 
-pub record Gentle (s : Slab) : Type 0 where
+-- of a direction times the side, and of projections
+pub record SlabFits (s : Slab) : Type 0 where
   pub x-in : In (2 ^ 49) (s .x)
   pub y-in : In (2 ^ 49) (s .y)
   pub z-in : In (2 ^ 49) (s .z)
   pub low-in : In (2 ^ 59) (s .low)
   pub high-in : In (2 ^ 59) (s .high)
 
-pub record Gentles (s : Three) : Type 0 where
-  pub x-ok : Gentle (s .x)
-  pub y-ok : Gentle (s .y)
-  pub z-ok : Gentle (s .z)
+pub record ThreeFit (s : Three) : Type 0 where
+  pub x-ok : SlabFits (s .x)
+  pub y-ok : SlabFits (s .y)
+  pub z-ok : SlabFits (s .z)
 
--- the axes have one coordinate each, and an edge's products with them two
+-- the axes have one coordinate each that is not 0, and an edge's products with them two
 pub record Axial (s : Three) : Type 0 where
   pub x-y : s .x .y ≡ pos 0
   pub x-z : s .x .z ≡ pos 0
@@ -96,23 +99,25 @@ pub record Flat (s : Three) : Type 0 where
   pub y-y : s .y .y ≡ pos 0
   pub z-z : s .z .z ≡ pos 0
 
-pub record Mild (s : Slabs) : Type 0 where
-  pub axes-ok : Gentles (s .axes)
-  pub normal-ok : Gentle (s .normal)
-  pub edge01-ok : Gentles (s .edge01)
-  pub edge12-ok : Gentles (s .edge12)
-  pub edge20-ok : Gentles (s .edge20)
+-- all of it, which a triangle's slabs have (`slabs-fit` in proofs/Laws.antt)
+pub record SlabsFit (s : Slabs) : Type 0 where
+  pub axes-ok : ThreeFit (s .axes)
+  pub normal-ok : SlabFits (s .normal)
+  pub edge01-ok : ThreeFit (s .edge01)
+  pub edge12-ok : ThreeFit (s .edge12)
+  pub edge20-ok : ThreeFit (s .edge20)
   pub axes-axial : Axial (s .axes)
   pub edge01-flat : Flat (s .edge01)
   pub edge12-flat : Flat (s .edge12)
   pub edge20-flat : Flat (s .edge20)
 
-pub record Beside (i j k : ℤ) : Type 0 where
+-- a cell's coordinates, with a sign and without
+pub record CoordinatesFit (i j k : ℤ) : Type 0 where
   pub i-in : In 255 i
   pub j-in : In 255 j
   pub k-in : In 255 k
 
-pub record Near (c : Cell) : Type 0 where
+pub record CellFits (c : Cell) : Type 0 where
   pub i-near : c .i < 256
   pub j-near : c .j < 256
   pub k-near : c .k < 256

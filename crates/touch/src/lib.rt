@@ -7,7 +7,7 @@ ghost use lib.IntN.{pos, natAbs};
 ghost use Rattle.ints.specs.Bound.{In};
 ghost use Rattle.ints.specs.Order.{lesser, greater};
 ghost use Rattle.touch.specs.Touch.{dotZ, reach, edge, cross, normal, touching};
-ghost use Rattle.touch.specs.Slabs.{slabOf, threeOf, productsOf, slabsOf, kept, keptThree, keptAll, Dir, Far, Corner, Corners, Gentle, Gentles, Axial, Flat, Mild, Near, Beside};
+ghost use Rattle.touch.specs.Slabs.{slabOf, threeOf, productsOf, slabsOf, kept, keptThree, keptAll, DirectionFits, EdgeFits, VertexFits, TriangleFits, SlabFits, ThreeFit, Axial, Flat, SlabsFit, CellFits, CoordinatesFit};
 use grid::Cell;
 
 // The cells that a direction does not separate: side * (direction . cell) is from low to high. x, y and z are
@@ -45,8 +45,8 @@ fn abs(x: i64) -> i64
 
 // The projection of v on d.
 fn dot(d: [i64; 3], v: [i64; 3]) -> i64
-    requires { ⌜ Dir d ⌝ }
-    requires { ⌜ Corner v ⌝ }
+    requires { ⌜ DirectionFits d ⌝ }
+    requires { ⌜ VertexFits v ⌝ }
     ensures { λ r. ⌜ r ≡ dotZ d v ⌝ }
 {
     d[0] * v[0] + d[1] * v[1] + d[2] * v[2]
@@ -54,7 +54,7 @@ fn dot(d: [i64; 3], v: [i64; 3]) -> i64
 
 // How far a cell's cube reaches from its centre on d.
 fn span(d: [i64; 3]) -> i64
-    requires { ⌜ Dir d ⌝ }
+    requires { ⌜ DirectionFits d ⌝ }
     ensures { λ r. ⌜ r ≡ reach d ⌝ }
 {
     numbers::HALF * (abs(d[0]) + abs(d[1]) + abs(d[2]))
@@ -74,8 +74,8 @@ pub fn greatest(a: i64, b: i64) -> i64
 
 // The cells that the direction d does not separate from the triangle t.
 fn slab_along(d: [i64; 3], t: [[i64; 3]; 3]) -> Slab
-    requires { ⌜ Dir d ⌝ }
-    requires { ⌜ Corners t ⌝ }
+    requires { ⌜ DirectionFits d ⌝ }
+    requires { ⌜ TriangleFits t ⌝ }
     ensures { λ s. ⌜ s ≡ slabOf d t ⌝ }
 {
     let a = dot(d, t[0]);
@@ -92,16 +92,16 @@ fn slab_along(d: [i64; 3], t: [[i64; 3]; 3]) -> Slab
 }
 
 fn edge_of(a: [i64; 3], b: [i64; 3]) -> [i64; 3]
-    requires { ⌜ Corner a ⌝ }
-    requires { ⌜ Corner b ⌝ }
+    requires { ⌜ VertexFits a ⌝ }
+    requires { ⌜ VertexFits b ⌝ }
     ensures { λ r. ⌜ r ≡ edge a b ⌝ }
 {
     [b[0] - a[0], b[1] - a[1], b[2] - a[2]]
 }
 
 fn cross_of(a: [i64; 3], b: [i64; 3]) -> [i64; 3]
-    requires { ⌜ Far a ⌝ }
-    requires { ⌜ Far b ⌝ }
+    requires { ⌜ EdgeFits a ⌝ }
+    requires { ⌜ EdgeFits b ⌝ }
     ensures { λ r. ⌜ r ≡ cross a b ⌝ }
 {
     [
@@ -112,8 +112,8 @@ fn cross_of(a: [i64; 3], b: [i64; 3]) -> [i64; 3]
 }
 
 fn three_along(x: [i64; 3], y: [i64; 3], z: [i64; 3], t: [[i64; 3]; 3]) -> Three
-    requires { ⌜ Dir x × Dir y × Dir z ⌝ }
-    requires { ⌜ Corners t ⌝ }
+    requires { ⌜ DirectionFits x × DirectionFits y × DirectionFits z ⌝ }
+    requires { ⌜ TriangleFits t ⌝ }
     ensures { λ s. ⌜ s ≡ threeOf x y z t ⌝ }
 {
     let sx = slab_along(x, t);
@@ -128,8 +128,8 @@ fn three_along(x: [i64; 3], y: [i64; 3], z: [i64; 3], t: [[i64; 3]; 3]) -> Three
 
 // Of the products of the edge from a to b with the axes.
 fn products(a: [i64; 3], b: [i64; 3], t: [[i64; 3]; 3]) -> Three
-    requires { ⌜ Corner a × Corner b ⌝ }
-    requires { ⌜ Corners t ⌝ }
+    requires { ⌜ VertexFits a × VertexFits b ⌝ }
+    requires { ⌜ TriangleFits t ⌝ }
     ensures { λ s. ⌜ s ≡ productsOf (edge a b) t ⌝ }
 {
     let e = edge_of(a, b);
@@ -140,7 +140,7 @@ fn products(a: [i64; 3], b: [i64; 3], t: [[i64; 3]; 3]) -> Three
 }
 
 fn normal_slab(t: [[i64; 3]; 3]) -> Slab
-    requires { ⌜ Corners t ⌝ }
+    requires { ⌜ TriangleFits t ⌝ }
     ensures { λ s. ⌜ s ≡ slabOf (normal t) t ⌝ }
 {
     let e = edge_of(t[0], t[1]);
@@ -150,7 +150,7 @@ fn normal_slab(t: [[i64; 3]; 3]) -> Slab
 
 // The thirteen directions of a triangle, with what each leaves of the cells: once a triangle.
 pub fn slabs_of(t: [[i64; 3]; 3]) -> Slabs
-    requires { ⌜ Corners t ⌝ }
+    requires { ⌜ TriangleFits t ⌝ }
     ensures { λ s. ⌜ s ≡ slabsOf t ⌝ }
 {
     let axes = three_along([1, 0, 0], [0, 1, 0], [0, 0, 1], t);
@@ -168,8 +168,8 @@ pub fn slabs_of(t: [[i64; 3]; 3]) -> Slabs
 }
 
 fn keeps(s: Slab, i: i64, j: i64, k: i64) -> bool
-    requires { ⌜ Gentle s ⌝ }
-    requires { ⌜ Beside i j k ⌝ }
+    requires { ⌜ SlabFits s ⌝ }
+    requires { ⌜ CoordinatesFit i j k ⌝ }
     ensures { λ b. ⌜ b ≡ kept s i j k ⌝ }
 {
     let p = s.x * i + s.y * j + s.z * k;
@@ -179,9 +179,9 @@ fn keeps(s: Slab, i: i64, j: i64, k: i64) -> bool
 // Of the axes: each slab has one coordinate that is not 0. What does not depend on i is left for a row's
 // loop to compute once.
 fn keeps_axes(s: Three, i: i64, j: i64, k: i64) -> bool
-    requires { ⌜ Gentles s ⌝ }
+    requires { ⌜ ThreeFit s ⌝ }
     requires { ⌜ Axial s ⌝ }
-    requires { ⌜ Beside i j k ⌝ }
+    requires { ⌜ CoordinatesFit i j k ⌝ }
     ensures { λ b. ⌜ b ≡ keptThree s i j k ⌝ }
 {
     let px = s.x.x * i;
@@ -195,9 +195,9 @@ fn keeps_axes(s: Three, i: i64, j: i64, k: i64) -> bool
 
 // Of an edge's products with the axes: each slab has a coordinate that is 0.
 fn keeps_products(s: Three, i: i64, j: i64, k: i64) -> bool
-    requires { ⌜ Gentles s ⌝ }
+    requires { ⌜ ThreeFit s ⌝ }
     requires { ⌜ Flat s ⌝ }
-    requires { ⌜ Beside i j k ⌝ }
+    requires { ⌜ CoordinatesFit i j k ⌝ }
     ensures { λ b. ⌜ b ≡ keptThree s i j k ⌝ }
 {
     let px = s.x.y * j + s.x.z * k;
@@ -211,8 +211,8 @@ fn keeps_products(s: Three, i: i64, j: i64, k: i64) -> bool
 
 // Whether none of the thirteen separates the cell.
 pub fn within(s: Slabs, c: Cell) -> bool
-    requires { ⌜ Mild s ⌝ }
-    requires { ⌜ Near c ⌝ }
+    requires { ⌜ SlabsFit s ⌝ }
+    requires { ⌜ CellFits c ⌝ }
     ensures { λ b. ⌜ b ≡ keptAll s c ⌝ }
 {
     let i = c.i as i64;
@@ -228,8 +228,8 @@ pub fn within(s: Slabs, c: Cell) -> bool
 
 // Whether the triangle touches the cell: the two steps in one, by value.
 pub fn touches(t: [[i64; 3]; 3], c: Cell) -> bool
-    requires { ⌜ Corners t ⌝ }
-    requires { ⌜ Near c ⌝ }
+    requires { ⌜ TriangleFits t ⌝ }
+    requires { ⌜ CellFits c ⌝ }
     ensures { λ b. ⌜ b ≡ touching t c ⌝ }
 {
     within(slabs_of(t), c)

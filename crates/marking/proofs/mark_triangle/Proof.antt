@@ -4,9 +4,9 @@ use mathlib.Core.List.{List}
 use mathlib.Core.Path.{sym, ap, subst, _∙_}
 use lib.IntN.{ℤ}
 use Rattle.grid.specs.declared.Cell.{Cell}
-use Rattle.touch.specs.Slabs.{Corners, Mild}
+use Rattle.touch.specs.Slabs.{TriangleFits, SlabsFit}
 use Rattle.touch.specs.Touch.{touching}
-use Rattle.touch.proofs.Laws.{slabs-mild}
+use Rattle.touch.proofs.Laws.{slabs-fit}
 use Rattle.mesh.specs.Mesh.{triangleOf, isCandidate}
 use Rattle.mesh.specs.Ranges.{OnCells}
 use Rattle.mesh.proofs.Laws.{on-cells, corners, ends-in}
@@ -28,7 +28,7 @@ candidates-requires c κs = (subst (OnCells (c .before .before .before .before .
 slabs-of-requires : tie.Need-slabs-of-requires
 slabs-of-requires c κs =
     let a = c .before .before .before .before .before .args in
-    subst Corners (sym (c .before .triangle-of .ensures)) (corners (a .ps .now) (a .ts .now) (a .r) (a .at) (a .t) (c .before .before .before .before .before .pre .0 .sound) (placed (c .before)))
+    subst TriangleFits (sym (c .before .triangle-of .ensures)) (corners (a .ps .now) (a .ts .now) (a .r) (a .at) (a .t) (c .before .before .before .before .before .pre .0 .sound) (placed (c .before)))
 
 mark-block-requires : tie.Need-mark-block-requires
 mark-block-requires c κs =
@@ -36,8 +36,8 @@ mark-block-requires c κs =
     let p = c .before .before .before .before .before .before .before .pre in
     let w = c .before .before .candidates .ensures in
     let t = c .before .before .before .triangle-of .result in
-    let mild = slabs-mild t (subst Corners (sym (c .before .before .before .triangle-of .ensures)) (corners (a .ps .now) (a .ts .now) (a .r) (a .at) (a .t) (p .0 .sound) (placed (c .before .before .before)))) in
-    (p .0, (subst Mild (sym (c .before .slabs-of .ensures)) mild, (ends-in _ _ _ _ _ (w .on-i), ends-in _ _ _ _ _ (w .on-j), ends-in _ _ _ _ _ (w .on-k))))
+    let fit = slabs-fit t (subst TriangleFits (sym (c .before .before .before .triangle-of .ensures)) (corners (a .ps .now) (a .ts .now) (a .r) (a .at) (a .t) (p .0 .sound) (placed (c .before .before .before)))) in
+    (p .0, (subst SlabsFit (sym (c .before .slabs-of .ensures)) fit, (ends-in _ _ _ _ _ (w .on-i), ends-in _ _ _ _ _ (w .on-j), ends-in _ _ _ _ _ (w .on-k))))
 
 same-length : tie.Need-same-length
 same-length c = c .before .before .mark-block .ensures .size

@@ -2,7 +2,7 @@
 use mathlib.Core.Bool.{_&&_}
 use mathlib.Core.Path.{_∙_}
 use Rattle.touch.specs.Slabs.{keptAll, keptAt}
-use Rattle.touch.proofs.Laws.{signed, near-beside}
+use Rattle.touch.proofs.Laws.{signed, cell-coordinates}
 use borrow.Author.Needs.{needs}
 use Rattle.touch.proofs.within.Statement.{statement}
 use Rattle.touch.proofs.within.Tie as tie
@@ -17,19 +17,19 @@ cast-k : tie.Need-cast-k
 cast-k c = search needs
 
 keeps-axes-requires : tie.Need-keeps-axes-requires
-keeps-axes-requires c κs = (c .before .before .before .pre .0 .axes-ok, (c .before .before .before .pre .0 .axes-axial, near-beside (c .before .before .before .args .c) (c .before .before .before .pre .1)))
+keeps-axes-requires c κs = (c .before .before .before .pre .0 .axes-ok, (c .before .before .before .pre .0 .axes-axial, cell-coordinates (c .before .before .before .args .c) (c .before .before .before .pre .1)))
 
 keeps-requires : tie.Need-keeps-requires
-keeps-requires c κs = (c .before .before .before .before .pre .0 .normal-ok, near-beside (c .before .before .before .before .args .c) (c .before .before .before .before .pre .1))
+keeps-requires c κs = (c .before .before .before .before .pre .0 .normal-ok, cell-coordinates (c .before .before .before .before .args .c) (c .before .before .before .before .pre .1))
 
 keeps-products-requires : tie.Need-keeps-products-requires
-keeps-products-requires c κs = (c .before .before .before .before .before .pre .0 .edge01-ok, (c .before .before .before .before .before .pre .0 .edge01-flat, near-beside (c .before .before .before .before .before .args .c) (c .before .before .before .before .before .pre .1)))
+keeps-products-requires c κs = (c .before .before .before .before .before .pre .0 .edge01-ok, (c .before .before .before .before .before .pre .0 .edge01-flat, cell-coordinates (c .before .before .before .before .before .args .c) (c .before .before .before .before .before .pre .1)))
 
 keeps-products-requires-2 : tie.Need-keeps-products-requires-2
-keeps-products-requires-2 c κs = (c .before .before .before .before .before .before .pre .0 .edge12-ok, (c .before .before .before .before .before .before .pre .0 .edge12-flat, near-beside (c .before .before .before .before .before .before .args .c) (c .before .before .before .before .before .before .pre .1)))
+keeps-products-requires-2 c κs = (c .before .before .before .before .before .before .pre .0 .edge12-ok, (c .before .before .before .before .before .before .pre .0 .edge12-flat, cell-coordinates (c .before .before .before .before .before .before .args .c) (c .before .before .before .before .before .before .pre .1)))
 
 keeps-products-requires-3 : tie.Need-keeps-products-requires-3
-keeps-products-requires-3 c κs = (c .before .before .before .before .before .before .before .pre .0 .edge20-ok, (c .before .before .before .before .before .before .before .pre .0 .edge20-flat, near-beside (c .before .before .before .before .before .before .before .args .c) (c .before .before .before .before .before .before .before .pre .1)))
+keeps-products-requires-3 c κs = (c .before .before .before .before .before .before .before .pre .0 .edge20-ok, (c .before .before .before .before .before .before .before .pre .0 .edge20-flat, cell-coordinates (c .before .before .before .before .before .before .before .args .c) (c .before .before .before .before .before .before .before .pre .1)))
 
 returns : tie.Need-returns
 unfolding keptAll
