@@ -72,7 +72,7 @@ answered Fine o a h = (refl, h)
 
 -- ---- 8
 
-or-false : (a b : Bool) → (a || b) ≡ false → (a ≡ false) × (b ≡ false)
+pub or-false : (a b : Bool) → (a || b) ≡ false → (a ≡ false) × (b ≡ false)
 or-false true b h = absurd (true≢false h)
 or-false false b h = (refl, h)
 
@@ -105,7 +105,7 @@ axes-fine r = (from, back)
 
 -- ---- 9
 
-not-false : (b : Bool) → not b ≡ false → b ≡ true
+pub not-false : (b : Bool) → not b ≡ false → b ≡ true
 not-false true h = refl
 not-false false h = absurd (true≢false h)
 

@@ -53,7 +53,7 @@ leZ-neg (negsuc m) (negsuc n) = leb-suc m n
 
 -- ---- strictly below
 
-ap2 : {A B C : Type 0} (f : A → B → C) {a a' : A} {b b' : B} → a ≡ a' → b ≡ b' → f a b ≡ f a' b'
+pub ap2 : {A B C : Type 0} (f : A → B → C) {a a' : A} {b b' : B} → a ≡ a' → b ≡ b' → f a b ≡ f a' b'
 ap2 f p q = λ t. f (p t) (q t)
 
 sum-sub : (a b : ℤ) → a +ℤ b ≡ subℕ (up a + up b) (down a + down b)

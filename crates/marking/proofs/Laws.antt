@@ -1,5 +1,5 @@
 -- What the contract of `mark` says: its labels, its numbers, that two results coincide, that a vertex's own cell is surface, and that the order of triangles does not matter. Assumes nothing.
-use mathlib.Core.Bool.{Bool, true, false, not, cond, _&&_, _||_, true≢false}
+use mathlib.Core.Bool.{Bool, true, false, not, cond, _&&_, _||_}
 use mathlib.Core.Logic.{_↔_}
 use mathlib.Core.Path.{_≡_, refl, sym, ap, subst, _∙_}
 use mathlib.Core.List.{List, [], _∷_}
@@ -22,7 +22,7 @@ use Rattle.grid.specs.Checks.{firstFault, badAxis, axesFault}
 use Rattle.grid.specs.Grid.{Sound, InGrid, cells, num, at}
 use Rattle.grid.proofs.First.{some-below}
 use Rattle.grid.proofs.Cells.{num-lt, labels-length, labels-one, labels-at}
-use Rattle.grid.proofs.Checks.{passed, finds-if, finds-then, gives-unless}
+use Rattle.grid.proofs.Checks.{passed, or-false, not-false, finds-if, finds-then, gives-unless}
 use Rattle.ints.specs.Bound.{cons3}
 use Rattle.sizing.specs.Points.{bounded, lengthFault}
 use Rattle.sizing.specs.Sizing.{points}
@@ -39,18 +39,10 @@ use Rattle.marking.specs.Painted.{Painted, Ready}
 
 -- ---- what the loops need and leave
 
-or-no : (a b : Bool) → (a || b) ≡ false → (a ≡ false) × (b ≡ false)
-or-no true b h = absurd (true≢false h)
-or-no false b h = (refl, h)
-
-not-no : (b : Bool) → not b ≡ false → b ≡ true
-not-no true h = refl
-not-no false h = absurd (true≢false h)
-
 few : (n : ℕ) → lengthFault n ≡ Fine → n ≤ 196608
 few n h =
-    let p = or-no (not (eqb (n % 3) 0)) (ltb 65536 (n / 3)) (passed (not (eqb (n % 3) 0) || ltb 65536 (n / 3)) 1 0 Fine h .0) in
-    let z = eqb-true (n % 3) 0 (not-no (eqb (n % 3) 0) (p .0)) in
+    let p = or-false (not (eqb (n % 3) 0)) (ltb 65536 (n / 3)) (passed (not (eqb (n % 3) 0) || ltb 65536 (n / 3)) 1 0 Fine h .0) in
+    let z = eqb-true (n % 3) 0 (not-false (eqb (n % 3) 0) (p .0)) in
     let l = ltb-false 65536 (n / 3) (p .1) in
     omega (arith, div-add-mod n 3)
 

@@ -259,6 +259,9 @@ own-candidate n x y z w which h =
     ∙ rw (lt-ltb w (g .0 + 1) (omega arith), lt-ltb w n h) in
     rw (from, to)
 
+number : {a b : ℕ} → pos a ≡ pos b → a ≡ b
+number e = cc
+
 -- the cell of a vertex
 pub record IsCellOf (v : List ℤ) (c : Cell) : Type 0 where
   pub on-i : cellOf (along v 0) ≡ pos (c .i)
@@ -276,9 +279,6 @@ own-in r v c h w =
   where
     below : (n : ℕ) (q : ℤ) (i : ℕ) → onAxis n q ≡ true → cellOf q ≡ pos i → i < n
     below n q i h e = let w = on-held n q h in let same : w .0 ≡ i = number (sym (w .1) ∙ e) in omega (arith, w .2)
-      where
-        number : {a b : ℕ} → pos a ≡ pos b → a ≡ b
-        number e = cc
 
 -- and a candidate of the triangle
 pub own-is-candidate : (t : List (List ℤ)) (r : Axes) (n : ℕ) (c : Cell) → OnCells r t → n < 3 → IsCellOf (vertex t n) c → isCandidate t r c ≡ true
@@ -291,9 +291,6 @@ own-is-candidate t r n c o h w =
     on (suc zero) k = o .on1
     on (suc (suc zero)) k = o .on2
     on (suc (suc (suc v))) k = absurd (omega arith)
-
-    number : {a b : ℕ} → pos a ≡ pos b → a ≡ b
-    number e = cc
 
     which : (n : ℕ) → n < 3 → {x y z i : ℕ} (a : ℕ → ℤ) → a 0 ≡ pos x → a 1 ≡ pos y → a 2 ≡ pos z → a n ≡ pos i → (x ≡ i) ⊎ ((y ≡ i) ⊎ (z ≡ i))
     which zero k a p q s e = inl (number (sym p ∙ e))

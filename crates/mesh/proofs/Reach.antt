@@ -21,7 +21,7 @@ use Rattle.sizing.specs.Points.{bounded, numbersFault}
 use Rattle.sizing.proofs.Ratio.{Capped, Exact, round-capped}
 use Rattle.grid.specs.declared.Checked.the-variants.{Fine}
 use Rattle.grid.specs.declared.Placement.{Placement}
-use Rattle.grid.proofs.Checks.{passed, both-fine, first-fine}
+use Rattle.grid.proofs.Checks.{passed, both-fine, not-false, first-fine}
 use Rattle.ints.specs.Bound.{cons3}
 use Rattle.sizing.specs.Sizing.{points, coord}
 use Rattle.mesh.specs.Mesh.{wholeParts, partsAt, vertexOf}
@@ -200,14 +200,10 @@ unfolding partsAt wholeParts
 coordinate-whole at h p o P O =
     let s = at .scale in
     let r = eq (at .reciprocal) (div binary32 (fin false 1 (pos 0)) s) in
-    let all = not-no (le leastScale s && le s greatestScale && r) (passed _ 5 0 Fine h .0) in
+    let all = not-false (le leastScale s && le s greatestScale && r) (passed _ 5 0 Fine h .0) in
     let ends = both-l (le leastScale s && le s greatestScale) r all in
     let w = whole parts p o s (at .reciprocal) P O (both-l (le leastScale s) (le s greatestScale) ends) (both-r (le leastScale s) (le s greatestScale) ends) (both-r (le leastScale s && le s greatestScale) r all) in
     (w .0, w .1, ap wholeParts (w .1))
-  where
-    not-no : (b : Bool) → not b ≡ false → b ≡ true
-    not-no true e = refl
-    not-no false e = absurd (true≢false e)
 
 -- every vertex: its coordinates are the q that 01 names, of the exact t
 pub vertex-whole : (ps : List Float) (at : Placement) → lentNumbersFault ps at ≡ Fine → lentFault at ≡ Fine → (v : ℕ) → v < points ps

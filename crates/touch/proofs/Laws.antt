@@ -14,7 +14,7 @@ use Rattle.grid.specs.declared.Cell.{Cell}
 use Rattle.numbers.specs.Rounding.{parts, half}
 use Rattle.ints.specs.Bound.{In, Val, Each, got, in-add, in-sub, in-mul, in-abs, in-lit, in-up, in-eq, in3, cons3}
 use Rattle.ints.specs.Casts.{of-unsigned}
-use Rattle.ints.specs.Order.{lesser, greater, le-not, lt-lesser, lt-greater, lt-less, lt-more}
+use Rattle.ints.specs.Order.{ap2, lesser, greater, le-not, lt-lesser, lt-greater, lt-less, lt-more}
 use Rattle.ints.specs.Ring.{ap3, mul-assoc}
 use Rattle.touch.specs.declared.Three.{Three}
 use Rattle.touch.specs.Touch.{along, vertex, centre, dotZ, reach, edge, cross, axisX, axisY, axisZ, axes, edgeOf, normal, withAxes, allAbove, allBelow, apart, someApart, touching}
@@ -53,9 +53,6 @@ pub greater-in : {B : ℕ} {a b : ℤ} → In B a → In B b → In B (greater a
 greater-in {a = a} {b = b} h k = pick-in (ltZ a b) h k
 
 -- the same of values that a machine has
-ap2 : {A B C : Type 0} (f : A → B → C) {a a' : A} {b b' : B} → a ≡ a' → b ≡ b' → f a b ≡ f a' b'
-ap2 f p q = λ t. f (p t) (q t)
-
 module _ {B : ℕ} {r m n x y : ℤ} (t : T (ltb B (2 ^ 63))) where
   pub v-lesser : r ≡ lesser m n → Val B m x → Val B n y → Val B (toZ w64 (ofZ w64 r)) (lesser x y)
   v-lesser e h k = got t (e ∙ ap2 lesser (h .is) (k .is)) (lesser-in {a = x} {b = y} (record { bound = h .bound }) (record { bound = k .bound }))

@@ -3,13 +3,10 @@ use mathlib.Core.Bool.{Bool, true, false, _||_, true≢false}
 use mathlib.Core.Path.{_≡_, refl}
 use lib.Dec.{ltb}
 use borrow.Author.Tests.{ltb-false}
+use Rattle.grid.proofs.Checks.{or-false}
 use borrow.Author.Needs.{needs}
 use Rattle.mark_vectors.proofs.one_case.Statement.{statement}
 use Rattle.mark_vectors.proofs.one_case.Tie as tie
-
-neither : (a b : Bool) → (a || b) ≡ false → (a ≡ false) × (b ≡ false)
-neither true b h = absurd (true≢false h)
-neither false b h = (refl, h)
 
 word-requires : tie.Need-word-requires
 word-requires c κs = search needs
@@ -57,7 +54,7 @@ stored-case-requires : tie.Need-stored-case-requires
 stored-case-requires c κs =
     let p = c .before .before .before .word .result in
     let t = c .before .before .word2 .result in
-    let few = neither (ltb 192 p) (ltb 192 t) (c .before .if1 .left) in
+    let few = or-false (ltb 192 p) (ltb 192 t) (c .before .if1 .left) in
     (c .if2 .left, ltb-false 192 p (few .0), ltb-false 192 t (few .1))
 
 returns-3 : tie.Need-returns-3
