@@ -21,19 +21,13 @@ fn floats(s: &[u8], at: usize) -> [f32; 12]
     out
 }
 
-fn at_most(n: usize, most: usize) -> usize
-    ensures { λ r. ⌜ r ≤ most ⌝ }
-{
-    if n <= most { n } else { most }
-}
-
 // By size (0) and by resolution (1): as many of the floats as the count says.
 fn size_case(s: &[u8], at: usize)
     requires { ⌜ at + 60 ≤ length (now s) ⌝ }
 {
     let way = replay::word(s, at);
     let value = replay::word(s, at + 4);
-    let n = at_most(replay::word(s, at + 8) as usize, 12);
+    let n = replay::at_most(replay::word(s, at + 8) as usize, 12);
     let points = floats(s, at);
     if way == 0 {
         replay::sized(sizing::by_size(&points[..n], replay::float_of(value)));
@@ -51,16 +45,10 @@ fn rounding_case(bits: u32) {
     replay::text(b"\n");
 }
 
-fn ones() -> [f32; 196620]
-    ensures { λ r. ⌜ 196620 ≡ length r ⌝ }
-{
-    [1.0f32; 196620]
-}
-
 // Many points (3): the first so many of 196,620 equal numbers.
 fn many_case(count: u32) {
-    let many = ones();
-    let n = at_most(count as usize, 196620);
+    let many = replay::ones();
+    let n = replay::at_most(count as usize, 196620);
     replay::sized(sizing::by_size(&many[..n], 1.0));
 }
 
@@ -95,7 +83,7 @@ fn labels_case(s: &[u8], at: usize)
     requires { ⌜ at + 60 ≤ length (now s) ⌝ }
 {
     let set = set_of(replay::word(s, at + 4));
-    let n = at_most(replay::word(s, at + 8) as usize, 48);
+    let n = replay::at_most(replay::word(s, at + 8) as usize, 48);
     let from = at + 12;
     let to = from + n;
     replay::checked(grid::labels_fault(&s[from..to], set));

@@ -9,12 +9,6 @@ use grid::Axes;
 use grid::Placement;
 use marking::Marking;
 
-fn at_most(n: usize, most: usize) -> usize
-    ensures { λ r. ⌜ r ≤ most ⌝ }
-{
-    if n <= most { n } else { most }
-}
-
 fn floats(s: &[u8], at: usize, n: usize) -> [f32; 192]
     requires { ⌜ (at + 4 * n ≤ length (now s)) × (n ≤ 192) ⌝ }
     ensures { λ r. ⌜ 192 ≡ length r ⌝ }
@@ -39,12 +33,6 @@ fn words(s: &[u8], at: usize, n: usize) -> [u32; 192]
         i += 1;
     }
     out
-}
-
-fn ones() -> [f32; 196620]
-    ensures { λ r. ⌜ 196620 ≡ length r ⌝ }
-{
-    [1.0f32; 196620]
 }
 
 fn zeros() -> [u32; 196620]
@@ -116,7 +104,7 @@ fn mark_and_report(points: &[f32], triangles: &[u32], r: Axes, at: Placement, la
 
 fn marked(points: &[f32], triangles: &[u32], r: Axes, at: Placement, len: usize) {
     let mut labels = pattern();
-    let n = at_most(len, 65536);
+    let n = replay::at_most(len, 65536);
     mark_and_report(points, triangles, r, at, &mut labels[..n]);
 }
 
@@ -149,10 +137,10 @@ fn placement_of(s: &[u8], at: usize) -> Placement
 fn long_case(s: &[u8], at: usize, p: usize, t: usize)
     requires { ⌜ at + 44 ≤ length (now s) ⌝ }
 {
-    let points = ones();
+    let points = replay::ones();
     let triangles = zeros();
-    let np = at_most(p, 196620);
-    let nt = at_most(t, 196620);
+    let np = replay::at_most(p, 196620);
+    let nt = replay::at_most(t, 196620);
     let r = axes_of(s, at);
     let place = placement_of(s, at);
     marked(

@@ -35,6 +35,20 @@ pub fn float_of(bits: u32) -> f32
     f32::from_bits(bits)
 }
 
+// A count, or the most that there is.
+pub fn at_most(n: usize, most: usize) -> usize
+    ensures { λ r. ⌜ r ≤ most ⌝ }
+{
+    if n <= most { n } else { most }
+}
+
+// More numbers than a list of points or triangles may have.
+pub fn ones() -> [f32; 196620]
+    ensures { λ r. ⌜ 196620 ≡ length r ⌝ }
+{
+    [1.0f32; 196620]
+}
+
 // ---- output
 
 pub fn text(t: &[u8]) {
