@@ -203,10 +203,10 @@ fn keeps_products(s: Three, i: i64, j: i64, k: i64) -> bool
     let px = s.x.y * j + s.x.z * k;
     let py = s.y.x * i + s.y.z * k;
     let pz = s.z.x * i + s.z.y * j;
-    let kx = (s.x.low <= px) & (px <= s.x.high);
-    let ky = (s.y.low <= py) & (py <= s.y.high);
-    let kz = (s.z.low <= pz) & (pz <= s.z.high);
-    kx & ky & kz
+    let of_x = (s.x.low <= px) & (px <= s.x.high);
+    let of_y = (s.y.low <= py) & (py <= s.y.high);
+    let of_z = (s.z.low <= pz) & (pz <= s.z.high);
+    of_x & of_y & of_z
 }
 
 // Whether none of the thirteen separates the cell.
