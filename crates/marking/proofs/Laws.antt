@@ -3,7 +3,7 @@ use mathlib.Core.Bool.{Bool, true, false, not, cond, _&&_, _||_}
 use mathlib.Core.Logic.{_↔_}
 use mathlib.Core.Path.{_≡_, refl, sym, ap, subst, _∙_}
 use mathlib.Core.List.{List, [], _∷_}
-use Prim.Native.Nat.{ℕ, zero, suc, _+_, _/_, _%_, _≤_, _<_}
+use Prim.Native.Nat.{ℕ, _+_, _/_, _%_, _≤_, _<_}
 use native.Mathlib.Nat.{div-add-mod}
 use native.Mathlib.Omega.{arith}
 use lib.Dec.{T, eqb, ltb}
@@ -30,8 +30,7 @@ use Rattle.touch.specs.Touch.{vertex, touching}
 use Rattle.touch.proofs.Meaning.{own-cell}
 use Rattle.mesh.specs.Mesh.{vertexOf, onGrid, triangles, corner, triangleOf, isCandidate}
 use Rattle.mesh.specs.Faults.{originFault, names, missingFault, leastScale, greatestScale, lentFault, lengthsFault, lentNumbersFault, inputFault, meshFault}
-use Rattle.mesh.specs.Ranges.{OnCells}
-use Rattle.mesh.proofs.Laws.{both-l, both-r, mesh-fine, on-cells, IsCellOf, own-in, own-is-candidate}
+use Rattle.mesh.proofs.Laws.{both-l, both-r, mesh-fine, on-cells, on-vertex, IsCellOf, own-in, own-is-candidate}
 use Rattle.marking.specs.declared.Marking.{Marking}
 use Rattle.marking.specs.declared.Marking.the-variants.{Marked, Refused}
 use Rattle.marking.specs.Marked.{outcome, hits, isSurface, markOf, markedLabels, markAnswer, markLabels}
@@ -154,18 +153,12 @@ pub vertex-marked : (ps : List Float) (ts : List ℕ) (r : Axes) (p : Placement)
 vertex-marked ps ts r p len h t l n k c w =
     let o = on-cells ps ts r p (mesh-fine ps ts r p len h .1) t l in
     let q = triangleOf ps ts p t in
-    let i = own-in r (vertex q n) c (on n k o) w in
+    let i = own-in r (vertex q n) c (on-vertex r q o n k) w in
     (i, mark-means ps ts r p c i .1 (t, l, own-is-candidate q r n c o k w, is-true (touching q c) (own-cell q c n k (w .on-i) (w .on-j) (w .on-k))))
   where
     is-true : (b : Bool) → T b → b ≡ true
     is-true true x = refl
     is-true false x = absurd x
-
-    on : (n : ℕ) → n < 3 → OnCells r (triangleOf ps ts p t) → onGrid r (vertex (triangleOf ps ts p t) n) ≡ true
-    on zero k o = o .on0
-    on (suc zero) k o = o .on1
-    on (suc (suc zero)) k o = o .on2
-    on (suc (suc (suc n))) k o = absurd (omega arith)
 
 -- ---- the order of triangles does not matter
 

@@ -6,7 +6,7 @@ use mathlib.Core.List.{List}
 use Prim.Native.Nat.{ℕ, zero, suc, _+_, _*_, _/_, _≤_, _<_, _^_}
 use native.Mathlib.Nat.{le-refl, div-add-mod}
 use native.Mathlib.Omega.{arith}
-use lib.Dec.{ltb}
+use lib.Dec.{ltb, lit<}
 use lib.IntN.{ℤ, pos, negsuc, _+ℤ_, _-ℤ_, -ℤ-+ℤ-cancel}
 use lib.Signed.{ltZ, leZ}
 use lib.ListN.{length, getD}
@@ -141,6 +141,13 @@ on-cells ps ts r at g t h =
     let l = within-points (length ts) t h in
     record { on0 = g .falls (3 * t + 0) (omega arith); on1 = g .falls (3 * t + 1) (omega arith); on2 = g .falls (3 * t + 2) l }
 
+-- each of its vertices
+pub on-vertex : (r : Axes) (t : List (List ℤ)) → OnCells r t → (v : ℕ) → v < 3 → onGrid r (vertex t v) ≡ true
+on-vertex r t o zero k = o .on0
+on-vertex r t o (suc zero) k = o .on1
+on-vertex r t o (suc (suc zero)) k = o .on2
+on-vertex r t o (suc (suc (suc v))) k = absurd (omega arith)
+
 pub corners : (ps : List Float) (ts : List ℕ) (r : Axes) (at : Placement) (t : ℕ) → Sound r → OnCells r (triangleOf ps ts at t) → TriangleFits (triangleOf ps ts at t)
 corners ps ts r at t s o = every3 (each (corner ts 0 t) (o .on0)) (each (corner ts 1 t) (o .on1)) (each (corner ts 2 t) (o .on2))
   where
@@ -202,20 +209,27 @@ pub held-greater : (a b : ℤ) → Held a → Held b → Held (greater a b)
 held-greater a b h k = held-pick (ltZ a b) h k
 
 -- coordinates on an axis, when they are handed on
-module _ (n : ℕ) (a : Axis n) where
+module _ (n : ℕ) (axis : Axis n) where
   axis-read : (q : ℤ) → onAxis n q ≡ true → toZ w64 (ofZ w64 q) ≡ q
-  axis-read q h = arg tt (on-bound n q a h) .is
+  axis-read q h = arg tt (on-bound n q axis h) .is
 
-  pub handed-axis : (q : ℤ) → onAxis n q ≡ true → onAxis n (toZ w64 (ofZ w64 q)) ≡ true
+  handed-axis : (q : ℤ) → onAxis n q ≡ true → onAxis n (toZ w64 (ofZ w64 q)) ≡ true
   handed-axis q h = ap (onAxis n) (axis-read q h) ∙ h
 
-  pub handed-ends : (x y z : ℤ) (e : Ends) → onAxis n x ≡ true → onAxis n y ≡ true → onAxis n z ≡ true
-      → EndsOf n (cellOf (toZ w64 (ofZ w64 x))) (cellOf (toZ w64 (ofZ w64 y))) (cellOf (toZ w64 (ofZ w64 z))) e
-      → EndsOf n (cellOf x) (cellOf y) (cellOf z) e
-  handed-ends x y z e h k l w = record {
-    begins = w .begins ∙ (λ t. firstOf (cellOf (axis-read x h t)) (cellOf (axis-read y k t)) (cellOf (axis-read z l t)));
-    stops = w .stops ∙ (λ t. pastOf n (cellOf (axis-read x h t)) (cellOf (axis-read y k t)) (cellOf (axis-read z l t)));
-  }
+  -- along axis a of a triangle
+  module _ (t : List (List ℤ)) (a : ℕ) (on : (v : ℕ) → v < 3 → onAxis n (along (vertex t v) a) ≡ true) where
+    abbrev read : ℕ → ℤ
+    read v = toZ w64 (ofZ w64 (along (vertex t v) a))
+
+    pub handed-on : (onAxis n (read 0) ≡ true) × (onAxis n (read 1) ≡ true) × (onAxis n (read 2) ≡ true)
+    handed-on = (handed-axis (along (vertex t 0) a) (on 0 (lit< tt)), handed-axis (along (vertex t 1) a) (on 1 (lit< tt)), handed-axis (along (vertex t 2) a) (on 2 (lit< tt)))
+
+    pub handed-ends : (e : Ends) → EndsOf n (cellOf (read 0)) (cellOf (read 1)) (cellOf (read 2)) e → EndsOf n (cellAlong t a 0) (cellAlong t a 1) (cellAlong t a 2) e
+    handed-ends e w =
+        let x = axis-read (along (vertex t 0) a) (on 0 (lit< tt)) in
+        let y = axis-read (along (vertex t 1) a) (on 1 (lit< tt)) in
+        let z = axis-read (along (vertex t 2) a) (on 2 (lit< tt)) in
+        record { begins = w .begins ∙ (λ s. firstOf (cellOf (x s)) (cellOf (y s)) (cellOf (z s))); stops = w .stops ∙ (λ s. pastOf n (cellOf (x s)) (cellOf (y s)) (cellOf (z s))) }
 
 -- ---- a vertex's own cell is a candidate
 
@@ -284,14 +298,8 @@ own-in r v c h w =
 pub own-is-candidate : (t : List (List ℤ)) (r : Axes) (n : ℕ) (c : Cell) → OnCells r t → n < 3 → IsCellOf (vertex t n) c → isCandidate t r c ≡ true
 unfolding isCandidate
 own-is-candidate t r n c o h w =
-    rw (along-axis (r .r0) 0 (c .i) (λ v k. on-i r (vertex t v) (on v k)) (w .on-i), along-axis (r .r1) 1 (c .j) (λ v k. on-j r (vertex t v) (on v k)) (w .on-j), along-axis (r .r2) 2 (c .k) (λ v k. on-k r (vertex t v) (on v k)) (w .on-k))
+    rw (along-axis (r .r0) 0 (c .i) (λ v k. on-i r (vertex t v) (on-vertex r t o v k)) (w .on-i), along-axis (r .r1) 1 (c .j) (λ v k. on-j r (vertex t v) (on-vertex r t o v k)) (w .on-j), along-axis (r .r2) 2 (c .k) (λ v k. on-k r (vertex t v) (on-vertex r t o v k)) (w .on-k))
   where
-    on : (v : ℕ) → v < 3 → onGrid r (vertex t v) ≡ true
-    on zero k = o .on0
-    on (suc zero) k = o .on1
-    on (suc (suc zero)) k = o .on2
-    on (suc (suc (suc v))) k = absurd (omega arith)
-
     which : (n : ℕ) → n < 3 → {x y z i : ℕ} (a : ℕ → ℤ) → a 0 ≡ pos x → a 1 ≡ pos y → a 2 ≡ pos z → a n ≡ pos i → (x ≡ i) ⊎ ((y ≡ i) ⊎ (z ≡ i))
     which zero k a p q s e = inl (number (sym p ∙ e))
     which (suc zero) k a p q s e = inr (inl (number (sym q ∙ e)))

@@ -9,7 +9,8 @@ use lib.Dec.{T, ltb, leb, lit<}
 use lib.IntN.{ℤ, one, pos, negℤ, _+ℤ_, _-ℤ_, _*ℤ_, +ℤ-idl, +ℤ-idr, *ℤ-one, *ℤ-zero, zero-*ℤ, *ℤ-comm}
 use lib.Signed.{ltZ, leZ}
 use mir.Syntax.{w64}
-use mir.Val.{toZ, ofZ}
+use mir.Facts.{toZ-ofZ}
+use mir.Val.{SFits, toZ, ofZ}
 use Rattle.grid.specs.declared.Cell.{Cell}
 use Rattle.numbers.specs.Rounding.{parts, half}
 use Rattle.ints.specs.Bound.{In, Val, Each, got, in-add, in-sub, in-mul, in-abs, in-lit, in-up, in-eq, in3, cons3}
@@ -51,6 +52,11 @@ lesser-in {a = a} {b = b} h k = pick-in (ltZ b a) h k
 
 pub greater-in : {B : ℕ} {a b : ℤ} → In B a → In B b → In B (greater a b)
 greater-in {a = a} {b = b} h k = pick-in (ltZ a b) h k
+
+-- one of two by a test of what a machine has: b where x is below y, else a
+pub picked : (x y a b : ℤ) (t : Bool) → SFits w64 x → SFits w64 y → SFits w64 (cond t b a) → ltZ (toZ w64 (ofZ w64 x)) (toZ w64 (ofZ w64 y)) ≡ t
+    → toZ w64 (ofZ w64 (cond t b a)) ≡ cond (ltZ x y) b a
+picked x y a b t f g h e = toZ-ofZ h ∙ ap (λ (u : Bool). cond u b a) (sym e ∙ ap2 ltZ (toZ-ofZ f) (toZ-ofZ g))
 
 -- the same of values that a machine has
 module _ {B : ℕ} {r m n x y : ℤ} (t : T (ltb B (2 ^ 63))) where

@@ -41,7 +41,7 @@ greatest-requires-2 : tie.Need-greatest-requires-2
 greatest-requires-2 c κs = search needs
 
 add-n : tie.Need-add-n
-add-n c = fits tt (v-add (greatestCell c) (lit (pos 1)))
+add-n c = fits tt (v-add (greatestCell c) (lit _))
 
 cast-if1 : tie.Need-cast-if1
 cast-if1 c = search needs

@@ -1,5 +1,6 @@
-//! Writes stored cases of marking into a folder: its `stdin`, and in `stdout` what a plain model of document
-//! 01's marking answers. Run it in rust/lifted: `cargo run --offline --release --bin mark_vectors -- DIR`.
+//! Writes the stored cases of crates/mark_vectors: its `stdin`, and in `stdout` what a plain model of document
+//! 01's marking answers. Run it in rust/lifted:
+//! `cargo run --offline --release --bin mark_vectors -- ../../crates/mark_vectors`.
 //!
 //! A case is a row of little-endian words: the lengths of the point and the triangle list, three axes, the
 //! bits of the origin, the scale and the reciprocal, the length of the label buffer, then both lists. If a
