@@ -2,3 +2,5 @@ pub mod First
 pub mod Cells
 pub mod Paths
 pub mod Checks
+pub mod Ways
+pub mod Counts

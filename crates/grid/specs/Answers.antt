@@ -2,6 +2,7 @@
 use Prim.Native.Nat.{ℕ}
 use mathlib.Core.Bool.{Bool, true, false, _||_}
 use mathlib.Core.List.{List, [], _∷_}
+use mathlib.Core.Path.{_≡_}
 use lib.Dec.{T, eqb}
 use Rattle.grid.specs.declared.Checked.{Checked}
 use Rattle.grid.specs.declared.Checked.the-variants.{Fine, Fault}
@@ -35,6 +36,12 @@ unless Fine o = o
 abbrev pub lentAfter : {A : Type 0} → Checked → A → A → A
 lentAfter (Fault f) before after = before
 lentAfter Fine before after = after
+
+-- a call that goes by a relation of answer and buffer: where the checks find a fault, that refusal and the buffer as it was; else what the relation allows
+abbrev pub Ends : {A B : Type 0} → Checked → B → (A → B → Type 0) → Outcome A → B → Type 0
+Ends (Fault f) before Allows o after = (o ≡ refuses (f .number) (f .place)) × (after ≡ before)
+Ends Fine before Allows (answers a) after = Allows a after
+Ends Fine before Allows (refuses n place) after = ⊥
 
 -- ---- which numbers a call can give
 

@@ -5,7 +5,7 @@ use mathlib.Core.Path.{_≡_}
 use mathlib.Core.List.{List, [], _∷_}
 use Prim.Native.Nat.{ℕ, zero, suc, _+_, _*_, _-_, _/_, _%_, _<_, _≤_}
 use lib.Dec.{eqb}
-use lib.ListN.{getD}
+use lib.ListN.{length, getD}
 use Rattle.grid.specs.declared.Axes.{Axes}
 use Rattle.grid.specs.declared.Cell.{Cell}
 
@@ -40,6 +40,11 @@ cellNumbered r n = record { i = n % r .r0; j = n / r .r0 % r .r1; k = n / r .r0 
 -- the label of a cell
 abbrev pub at : Axes → List ℕ → Cell → ℕ
 at r l c = getD l (num r c) 0
+
+-- a label for each cell of a sound grid: what the checks 8 and 9 leave
+pub record Sheet (r : Axes) (l : List ℕ) : Type 0 where
+  pub sound : Sound r
+  pub size : length l ≡ cells r
 
 -- the labels that a rule gives to each cell, in the order of cell numbers
 unfoldable pub firstOnes : ℕ → (ℕ → ℕ) → List ℕ

@@ -3,3 +3,5 @@ pub mod First
 pub mod Grid
 pub mod Paths
 pub mod Checks
+pub mod Ways
+pub mod Counts

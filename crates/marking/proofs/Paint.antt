@@ -13,7 +13,7 @@ use borrow.Author.Tests.{le-leb, lt-leb, lt-ltb, le-ltb, leb-true, ltb-true}
 use Rattle.grid.specs.declared.Axes.{Axes}
 use Rattle.grid.specs.declared.Cell.{Cell}
 use Rattle.grid.specs.First.{someBelow}
-use Rattle.grid.specs.Grid.{InGrid, num, at}
+use Rattle.grid.specs.Grid.{InGrid, num, at, Sheet}
 use Rattle.grid.proofs.First.{le-or-lt}
 use Rattle.grid.proofs.Cells.{cell-path, stored}
 use Rattle.touch.specs.declared.Slabs.{Slabs}
@@ -25,7 +25,7 @@ use Rattle.mesh.specs.declared.Block.{Block}
 use Rattle.mesh.specs.Mesh.{isCandidate}
 use Rattle.mesh.specs.Ranges.{BlockOf, between, holds}
 use Rattle.mesh.proofs.Laws.{both-l, both-r, block-test}
-use Rattle.marking.specs.Painted.{Painted, leftIn, one, rowOf, Sheet}
+use Rattle.marking.specs.Painted.{Painted, leftIn, one, rowOf}
 
 -- ---- painting
 

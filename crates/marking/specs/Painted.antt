@@ -8,7 +8,7 @@ use lib.Ieee.{Float}
 use Rattle.grid.specs.declared.Axes.{Axes}
 use Rattle.grid.specs.declared.Cell.{Cell}
 use Rattle.grid.specs.declared.Placement.{Placement}
-use Rattle.grid.specs.Grid.{Sound, InGrid, cells, at}
+use Rattle.grid.specs.Grid.{InGrid, at}
 use Rattle.touch.specs.declared.Slabs.{Slabs}
 use Rattle.touch.specs.Slabs.{keptAll}
 use Rattle.mesh.specs.declared.Ends.{Ends}
@@ -32,11 +32,6 @@ rowOf e j k = record { i = e; j = one j; k = one k }
 
 abbrev pub layerOf : Block → ℕ → Block
 layerOf b k = record { i = b .i; j = b .j; k = one k }
-
--- a label for each cell of a sound grid
-pub record Sheet (r : Axes) (l : List ℕ) : Type 0 where
-  pub sound : Sound r
-  pub size : length l ≡ cells r
 
 -- a mesh without fault
 pub record Ready (ps : List Float) (ts : List ℕ) (r : Axes) (at : Placement) : Type 0 where

@@ -8,7 +8,8 @@ use Rattle.grid.specs.declared.Checked.the-variants.{Fine}
 use Rattle.grid.specs.Answers.{answers, unless, lentAfter}
 use Rattle.mesh.specs.Faults.{meshFault}
 use Rattle.marking.specs.Marked.{isSurface, markedLabels}
-use Rattle.marking.specs.Painted.{Painted, Sheet}
+use Rattle.grid.specs.Grid.{Sheet}
+use Rattle.marking.specs.Painted.{Painted}
 use Rattle.marking.proofs.Laws.{ready, painted-marked}
 use borrow.Author.Needs.{needs}
 use Rattle.marking.proofs.mark.Statement.{statement}

@@ -5,10 +5,10 @@ use mathlib.Core.Path.{_≡_, sym, subst, _∙_}
 use Prim.Native.Nat.{ℕ, _-_, _<_}
 use lib.ListN.{length, getD, set}
 use Rattle.grid.specs.declared.Cell.{Cell}
-use Rattle.grid.specs.Grid.{InGrid, num, at}
+use Rattle.grid.specs.Grid.{InGrid, num, at, Sheet}
 use Rattle.grid.proofs.Cells.{num-lt}
 use Rattle.touch.specs.Slabs.{keptAll}
-use Rattle.marking.specs.Painted.{Painted, leftIn, rowOf, one, Sheet}
+use Rattle.marking.specs.Painted.{Painted, leftIn, rowOf, one}
 use Rattle.marking.proofs.Paint.{Along, along-starts, along-on, along-sheet, painted-same, painted-cell, none-along-i, more-i, done-i}
 use Rattle.marking.proofs.mark_row.Statement.{statement}
 use Rattle.marking.proofs.mark_row.Tie as tie

@@ -1,0 +1,4 @@
+pub mod Rays
+pub mod Turns
+pub mod Keeps
+pub mod Runs
