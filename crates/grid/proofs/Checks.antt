@@ -13,10 +13,10 @@ use Rattle.grid.specs.declared.Checked.{Checked}
 use Rattle.grid.specs.declared.Checked.the-variants.{Fine, Fault}
 use Rattle.grid.specs.declared.LabelSet.{LabelSet}
 use Rattle.grid.specs.declared.Refusal.{Refusal}
-use Rattle.grid.specs.Answers.{Outcome, answers, refuses, faultAt, faultIf, _andThen_, unless, isOneOf, Finds, Gives}
+use Rattle.grid.specs.Answers.{Outcome, answers, refuses, faultAt, faultIf, _andThen_, unless, Ends, isOneOf, Finds, Gives}
 use Rattle.grid.specs.First.{FirstAt, firstNot}
-use Rattle.grid.specs.Grid.{Axis, Sound, cells}
-use Rattle.grid.specs.Checks.{firstFault, badAxis, axesFault, bufferFault, takes}
+use Rattle.grid.specs.Grid.{Axis, Sound, cells, Sheet}
+use Rattle.grid.specs.Checks.{firstFault, badAxis, axesFault, bufferFault, gridFault, takes}
 use Rattle.grid.proofs.First.{before-first, at-first, first-is, first-one}
 
 -- ---- a row of checks
@@ -115,6 +115,12 @@ buffer-fine r n = (
   (λ e. sym (fault-not (not (eqb n (cells r))) 9 0 Fine (ap not (eq-eqb n (cells r) e)))),
 )
 
+-- 8 and 9 leave a label for each cell
+pub sheet-fine : (r : Axes) (l : List ℕ) → gridFault r (length l) ≡ Fine → Sheet r l
+sheet-fine r l h =
+    let e = both-fine (axesFault r) (bufferFault r (length l)) h in
+    record { sound = axes-fine r .0 (e .0); size = buffer-fine r (length l) .0 (e .1) }
+
 -- ---- a check of every element, as 3, 4 and 11 are
 
 module _ {A : Type 0} (n : ℕ) (place : ℕ → ℕ) (ok : A → Bool) (d : A) (xs : List A) where
@@ -180,3 +186,24 @@ taken-test s (suc (suc (suc (suc (suc (suc (suc (suc (suc n))))))))) =
   where
     past : (k : ℕ) → k < 9 → eqb (suc (suc (suc (suc (suc (suc (suc (suc (suc n))))))))) k ≡ false
     past k h = ne-eqb (suc (suc (suc (suc (suc (suc (suc (suc (suc n))))))))) k (λ e. omega arith)
+
+-- ---- a call that goes by a relation
+
+-- two results of it coincide where two of the relation do
+pub ends-one : {A B : Type 0} (f : Checked) (before : B) (Allows : A → B → Type 0) → ((a b : A) (x y : B) → f ≡ Fine → Allows a x → Allows b y → (a ≡ b) × (x ≡ y))
+    → (o p : Outcome A) (x y : B) → Ends f before Allows o x → Ends f before Allows p y → (o ≡ p) × (x ≡ y)
+ends-one (Fault f) before Allows h o p x y a b = (a .0 ∙ sym (b .0), a .1 ∙ sym (b .1))
+ends-one Fine before Allows h (answers a) (answers b) x y u v = let w = h a b x y refl u v in (ap answers (w .0), w .1)
+ends-one Fine before Allows h (answers a) (refuses n k) x y u v = absurd v
+ends-one Fine before Allows h (refuses n k) p x y u v = absurd u
+
+-- a refusal leaves the buffer
+pub ends-same : {A B : Type 0} (f : Checked) (before : B) (Allows : A → B → Type 0) (n k : ℕ) (after : B) → Ends f before Allows (refuses n k) after → after ≡ before
+ends-same (Fault f) before Allows n k after e = e .1
+ends-same Fine before Allows n k after e = absurd e
+
+-- and has one of the numbers that the checks find
+pub ends-gives : {A B : Type 0} (ns : List ℕ) (f : Checked) (before : B) (Allows : A → B → Type 0) (o : Outcome A) (after : B) → Finds ns f → Ends f before Allows o after → Gives ns o
+ends-gives ns (Fault f) before Allows o after h e = subst (Gives ns) (sym (e .0)) h
+ends-gives ns Fine before Allows (answers a) after h e = tt
+ends-gives ns Fine before Allows (refuses n k) after h e = absurd e

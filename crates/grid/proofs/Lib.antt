@@ -1,6 +1,7 @@
 pub mod First
 pub mod Cells
 pub mod Paths
+pub mod Floods
 pub mod Checks
 pub mod Ways
 pub mod Counts

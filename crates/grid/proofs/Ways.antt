@@ -1,12 +1,12 @@
 -- Laws of specs/Ways.antt: a neighbour is a cell of the grid, shares a face and has a number one stride on; every face is one of the six ways. Assumes nothing.
-use mathlib.Core.Logic.{_⊎_, inl, inr}
+use mathlib.Core.Logic.{inl, inr}
 use mathlib.Core.Path.{_≡_, refl, sym, ap, _∙_}
 use Prim.Native.Nat.{ℕ, suc, _+_, _*_, _-_, _<_}
 use native.Mathlib.Nat.{suc-mul, add-mul}
 use native.Mathlib.Omega.{arith}
 use Rattle.grid.specs.declared.Axes.{Axes}
 use Rattle.grid.specs.declared.Cell.{Cell}
-use Rattle.grid.specs.Grid.{num, InGrid, Next, along-i, along-j, along-k, Face}
+use Rattle.grid.specs.Grid.{num, InGrid, along-i, along-j, along-k, Face}
 use Rattle.grid.specs.Ways.{Way, up-k, down-k, up-j, down-j, up-i, down-i, room, beside}
 use Rattle.grid.proofs.Cells.{cell-path}
 

@@ -2,3 +2,4 @@ pub mod Rays
 pub mod Turns
 pub mod Keeps
 pub mod Runs
+pub mod Spreads

@@ -1,21 +1,21 @@
 -- Laws of specs/Rays.antt: what a loop along a ray goes by, where its numbers lie, and that it is the walk of specs/Scan.antt. Assumes nothing.
 use mathlib.Core.Bool.{Bool, cond}
 use mathlib.Core.Path.{_≡_, refl, sym, ap, subst, _∙_}
-use mathlib.Core.List.{List, [], _∷_}
+use mathlib.Core.List.{List, _∷_}
 use Prim.Native.Nat.{ℕ, zero, suc, _+_, _*_, _-_, _≤_, _<_, min}
 use native.Mathlib.Nat.{suc-mul, add-mul, mul-le-mul-right, sub-zero}
 use native.Mathlib.Omega.{arith}
 use lib.Dec.{eqb}
-use lib.ListN.{length, getD, set}
+use lib.ListN.{getD, set}
 use borrow.Author.Tests.{eq-eqb, ne-eqb}
 use Rattle.grid.specs.declared.Axes.{Axes}
 use Rattle.grid.specs.declared.Cell.{Cell}
-use Rattle.grid.specs.Grid.{num, cells, InGrid, at}
-use Rattle.grid.specs.Ways.{Way, up-k, down-k, up-j, down-j, up-i, down-i, ways, room, beside}
+use Rattle.grid.specs.Grid.{num, cells, InGrid}
+use Rattle.grid.specs.Ways.{Way, up-k, down-k, up-j, down-j, up-i, down-i, room, beside}
 use Rattle.grid.proofs.Cells.{num-lt}
-use Rattle.grid.proofs.Ways.{adds, takes-off, beside-in, beside-num, beside-room}
+use Rattle.grid.proofs.Ways.{adds, takes-off, beside-num, beside-room}
 use Rattle.spread.specs.declared.Phase.{Phase}
-use Rattle.spread.specs.Scan.{met, walkedFor, walkedTo, walkedOver, walkedFrom}
+use Rattle.spread.specs.Scan.{walkedFor, walkedTo, walkedOver, walkedFrom}
 use Rattle.spread.specs.Rays.{ray, Along, walkedAlong, Span, walkedBoth}
 
 -- a positive number is the successor of one less

@@ -1,3 +1,4 @@
 pub mod Scan
 pub mod Run
 pub mod Rays
+pub mod Spread

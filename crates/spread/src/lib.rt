@@ -4,7 +4,7 @@ ghost use mathlib.Core.Path.{_≡_};
 ghost use Prim.Native.Nat.{_+_, _≤_, _<_, min};
 ghost use lib.ListN.{length};
 ghost use Rattle.grid.specs.Grid.{num, InGrid, Sheet};
-ghost use Rattle.spread.specs.Scan.{State, walkedFrom, isWalker, visited, rowed, slabbed, scanned};
+ghost use Rattle.spread.specs.Scan.{walkedFrom, isWalker, visited, rowed, slabbed, scanned};
 ghost use Rattle.spread.specs.Run.{Run, Proper};
 ghost use Rattle.spread.specs.Rays.{ray, Along, walkedAlong, Span, walkedBoth};
 use grid::Axes;

@@ -1,4 +1,5 @@
 //! Parts of the crate parry3d 0.30.2, lifted so that they can be run beside the verified library. A line
 //! that was changed ends with `// touched`; each file's head says what was left out. See NOTICE for the licences.
 
+pub mod fill;
 pub mod sizing;

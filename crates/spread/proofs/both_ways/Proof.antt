@@ -1,6 +1,5 @@
 -- `spread::both_ways` meets its contract: a walk up the axis, then one down. Assumes nothing.
 use borrow.Author.Needs.{needs}
-use mathlib.Core.Path.{_≡_}
 use native.Mathlib.Omega.{arith}
 use lib.ListN.{length}
 use Rattle.spread.specs.Rays.{Span, walkedBoth}

@@ -1,11 +1,10 @@
 -- `spread::row` meets its contract: a visit in each turn (`Turns`), at the number of the turn's cell. Assumes nothing.
-use mathlib.Core.Path.{_≡_, refl, sym, ap, _∙_}
-use Prim.Native.Nat.{ℕ, _+_, _*_, _-_, _≤_, _<_}
-use native.Mathlib.Nat.{add-mul, one-mul, zero-mul, mul-le-mul}
+use mathlib.Core.Path.{_≡_}
+use Prim.Native.Nat.{ℕ, _+_, _*_, _-_, _<_}
+use native.Mathlib.Nat.{add-mul, one-mul, zero-mul}
 use native.Mathlib.Omega.{arith}
 use Rattle.grid.specs.declared.Axes.{Axes}
-use Rattle.grid.specs.declared.Cell.{Cell}
-use Rattle.grid.specs.Grid.{Sound, InGrid, num}
+use Rattle.grid.specs.Grid.{Sound}
 use Rattle.grid.proofs.Cells.{Terms, terms}
 use Rattle.spread.specs.Scan.{visited}
 use Rattle.spread.proofs.Turns.{Turns, turns-none, turns-more, turns-all}

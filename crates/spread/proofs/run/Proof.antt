@@ -1,7 +1,6 @@
 -- `spread::run` meets its contract: the scans that are left, from here, make the whole phase (`Going`). Assumes nothing.
 use mathlib.Core.Path.{_∙_}
 use native.Mathlib.Omega.{arith}
-use lib.ListN.{length}
 use Rattle.grid.specs.Counts.{count}
 use Rattle.grid.proofs.Counts.{count-most}
 use Rattle.spread.proofs.Runs.{ahead, Going, falls, going-none, going-more, going-done}

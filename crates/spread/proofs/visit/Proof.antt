@@ -3,12 +3,12 @@ use borrow.Author.Needs.{needs}
 use mathlib.Core.Bool.{true, false}
 use mathlib.Core.Path.{_≡_, sym, ap, subst, _∙_}
 use mathlib.Core.List.{List}
-use Prim.Native.Nat.{ℕ, _+_, _<_}
+use Prim.Native.Nat.{ℕ, _+_}
 use native.Mathlib.Omega.{arith}
-use lib.ListN.{length, getD, set, length-set}
-use Rattle.grid.specs.Grid.{num, at, cells}
+use lib.ListN.{getD, set, length-set}
+use Rattle.grid.specs.Grid.{at}
 use Rattle.grid.proofs.Cells.{num-lt}
-use Rattle.spread.specs.Scan.{State, isWalker, walkedFrom, visited}
+use Rattle.spread.specs.Scan.{isWalker, walkedFrom}
 use Rattle.spread.proofs.Turns.{visit-done, visit-walk, visit-none, sheet-kept}
 use Rattle.spread.proofs.visit.Statement.{statement}
 use Rattle.spread.proofs.visit.Tie as tie

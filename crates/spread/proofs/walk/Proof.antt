@@ -1,8 +1,8 @@
 -- `spread::walk` meets its contract: the rest of the walk from here leaves what the whole walk leaves. Assumes nothing.
 use mathlib.Core.Path.{_≡_, refl, sym, _∙_}
-use Prim.Native.Nat.{ℕ, _+_, _-_, _≤_, _<_}
+use Prim.Native.Nat.{_+_, _-_, _≤_, _<_}
 use native.Mathlib.Omega.{arith}
-use lib.ListN.{length, getD, set, length-set}
+use lib.ListN.{length, length-set}
 use Rattle.spread.specs.Rays.{ray, Along, walkedAlong}
 use Rattle.spread.proofs.Rays.{along-step, go-none, go-pass, go-mark, go-stop}
 use Rattle.spread.proofs.walk.Statement.{statement}

@@ -1,11 +1,9 @@
 -- `spread::walks` meets its contract: both ways on each axis are the six ways (`six-ways`). Assumes nothing.
 use borrow.Author.Needs.{needs}
-use mathlib.Core.Path.{_≡_, sym, ap, subst, _∙_}
-use mathlib.Core.List.{List}
+use mathlib.Core.Path.{sym, ap, subst, _∙_}
 use Prim.Native.Nat.{ℕ, _*_}
 use native.Mathlib.Omega.{arith}
 use lib.ListN.{length}
-use Rattle.grid.specs.Grid.{num, Sheet}
 use Rattle.grid.proofs.Cells.{terms}
 use Rattle.spread.specs.Rays.{Span, walkedBoth}
 use Rattle.spread.proofs.Rays.{span-i, span-j, span-k, six-ways}

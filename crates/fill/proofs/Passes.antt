@@ -1,0 +1,133 @@
+-- Laws of specs/Passes.antt: a pass place after place, one pass after another, what a whole pass leaves, and a loop that counts. Assumes nothing.
+use mathlib.Core.Bool.{Bool, true, false, cond}
+use mathlib.Core.Logic.{_⊎_, inl, inr, ⊎-elim}
+use mathlib.Core.Path.{_≡_, refl, sym, ap, subst, _∙_}
+use mathlib.Core.List.{List, [], _∷_, map}
+use Prim.Native.Nat.{ℕ, zero, suc, _+_, _-_, _≤_, _<_, zero-le}
+use native.Mathlib.Numerals.{add-one}
+use native.Mathlib.Omega.{arith}
+use lib.Dec.{eqb}
+use lib.ListN.{length, getD, set, drop, length-set, length-map, drop-of-length-le}
+use lib.Seq.{getD-set-same, getD-set-other, ext-getD, drop-cons}
+use borrow.Author.Tests.{ne-eqb}
+use Rattle.grid.specs.declared.Axes.{Axes}
+use Rattle.grid.specs.declared.Cell.{Cell}
+use Rattle.grid.specs.Counts.{count}
+use Rattle.grid.specs.Grid.{InGrid, num, cells, at, cellNumbered, onBorder}
+use Rattle.grid.proofs.Cells.{dec-eq, num-lt, cell-of-number, labels-one}
+use Rattle.grid.proofs.First.{le-or-lt}
+use Rattle.fill.specs.Phases.{becomes, seedOf, seeded}
+use Rattle.fill.specs.Passes.{Within, seedAt, Alike}
+
+-- ---- a pass
+
+module _ (f : ℕ → ℕ → ℕ) (a : ℕ) where
+  pub within-none : (l : List ℕ) → Within a a f l l
+  within-none l = record { size = refl; passed = λ n g h. absurd (none n g h); others = λ n h. refl }
+    where
+      none : (n : ℕ) → a ≤ n → n < a → ⊥
+      none n g h = omega arith
+
+  pub within-more : (l₀ l : List ℕ) (n v : ℕ) → Within a n f l₀ l → a ≤ n → n < length l → v ≡ f n (getD l n 0) → Within a (n + 1) f l₀ (set l n v)
+  within-more l₀ l n v w b h e = record {
+    size = length-set l n v ∙ w .size;
+    passed = λ t g k. dec-eq t n
+        (λ q. subst (λ (x : ℕ). getD (set l n v) x 0 ≡ f x (getD l₀ x 0)) (sym q) (getD-set-same l n v 0 h ∙ e ∙ ap (f n) (w .others n (inr (omega arith)))))
+        (λ z. getD-set-other l n t v 0 z ∙ w .passed t g (omega arith));
+    others = λ t g. getD-set-other l n t v 0 (not-here t g) ∙ w .others t (⊎-elim (λ p. inl p) (λ p. inr (omega arith)) g);
+  }
+    where
+      not-here : (t : ℕ) → (t < a) ⊎ (n + 1 ≤ t) → t ≡ n → ⊥
+      not-here t g q = ⊎-elim (λ p. omega arith) (λ p. omega arith) g
+
+  -- one pass after another
+  pub within-then : (b c : ℕ) (l m n : List ℕ) → a ≤ b → b ≤ c → Within a b f l m → Within b c f m n → Within a c f l n
+  within-then b c l m n p q v w = record {
+    size = w .size ∙ v .size;
+    passed = λ t g k. ⊎-elim
+        (λ h. w .passed t h k ∙ ap (f t) (v .others t (inr h)))
+        (λ h. w .others t (inl h) ∙ v .passed t g h)
+        (le-or-lt b t);
+    others = λ t g. w .others t (⊎-elim (λ h. inl (omega arith)) (λ h. inr h) g) ∙ v .others t (⊎-elim (λ h. inl h) (λ h. inr (omega arith)) g);
+  }
+
+  -- a rule that does the same there
+  pub within-as : (g : ℕ → ℕ → ℕ) (b : ℕ) (l m : List ℕ) → Within a b g l m → ((n v : ℕ) → a ≤ n → n < b → g n v ≡ f n v) → Within a b f l m
+  within-as g b l m w h = record { size = w .size; passed = λ n p q. w .passed n p q ∙ h n (getD l n 0) p q; others = w .others }
+
+  -- a rule that does nothing there
+  pub within-idle : (b : ℕ) (l : List ℕ) → ((n v : ℕ) → a ≤ n → n < b → f n v ≡ v) → Within a b f l l
+  within-idle b l h = record { size = refl; passed = λ n p q. sym (h n (getD l n 0) p q); others = λ n p. refl }
+
+-- ---- what a whole pass leaves
+
+pub map-at : (f : ℕ → ℕ) (l : List ℕ) (n : ℕ) → n < length l → getD (map f l) n 0 ≡ f (getD l n 0)
+map-at f [] n h = absurd (omega arith)
+map-at f (x ∷ l) zero h = refl
+map-at f (x ∷ l) (suc n) h = map-at f l n (omega arith)
+
+pub within-map : (f : ℕ → ℕ) (b : ℕ) (l m : List ℕ) → length l ≤ b → Within 0 b (λ n. f) l m → m ≡ map f l
+within-map f b l m h w =
+    ext-getD 0 m (map f l) (w .size ∙ sym (length-map l f)) (λ n g. w .passed n zero-le (omega (arith, w .size)) ∙ sym (map-at f l n (omega (arith, w .size))))
+
+pub within-seeded : (r : Axes) (b : ℕ) (l m : List ℕ) → length l ≡ cells r → b ≡ cells r → Within 0 b (seedAt r) l m → m ≡ seeded r l
+within-seeded r b l m e q w =
+    labels-one r (seedOf r l) m (w .size ∙ e) (λ c h.
+    w .passed (num r c) zero-le (omega (arith, num-lt r c h))
+    ∙ ap (λ (d : Cell). cond (onBorder r d) (becomes 0 0 1 (at r l c)) (at r l c)) (cell-of-number r c h))
+
+-- ---- the cells of a row along i, whose first cell is (0, j, k)
+
+module _ (r : Axes) (j k first : ℕ) (h : InGrid r (record { i = 0; j = j; k = k })) (e : first ≡ num r (record { i = 0; j = j; k = k })) where
+  pub row-cell : (n : ℕ) → first ≤ n → n < first + r .r0 → cellNumbered r n ≡ record { i = n - first; j = j; k = k }
+  row-cell n p q =
+      let c : Cell = record { i = n - first; j = j; k = k } in
+      let is : num r c ≡ n = omega arith in
+      ap (cellNumbered r) (sym is) ∙ cell-of-number r c (record { i-in = omega arith; j-in = h .j-in; k-in = h .k-in })
+
+  -- the row's numbers are all below the number of cells
+  pub row-fits : first + r .r0 ≤ cells r
+  row-fits =
+      let last : Cell = record { i = r .r0 - 1; j = j; k = k } in
+      omega (arith, num-lt r last (record { i-in = omega (arith, h .i-in); j-in = h .j-in; k-in = h .k-in }), h .i-in)
+
+  -- a cell of the row is like itself
+  pub one-alike : (i from : ℕ) → i < r .r0 → from ≡ first + i → Alike r (record { i = i; j = j; k = k }) from (from + 1)
+  one-alike i from g q n a b =
+      let is : n - first ≡ i = omega arith in
+      ap (onBorder r) (row-cell n (omega arith) (omega arith) ∙ ap (λ (x : ℕ). record { i = x; j = j; k = k }) is)
+
+  -- the cells between the first and the last of a row are alike
+  pub between-alike : Alike r (record { i = 1; j = j; k = k }) (first + 1) (first + r .r0 - 1)
+  between-alike n p q =
+      let is = row-cell n (omega arith) (omega arith) in
+      let low : eqb (n - first) 0 ≡ false = ne-eqb (n - first) 0 (omega arith) in
+      let high : eqb (r .r0 - (n - first)) 1 ≡ false = ne-eqb (r .r0 - (n - first)) 1 (omega arith) in
+      let one : eqb (r .r0 - 1) 1 ≡ false = ne-eqb (r .r0 - 1) 1 (omega arith) in
+      ap (onBorder r) is ∙ rw (low, high, one)
+
+-- ---- a loop that counts the labels of a kind, and has passed those before i
+
+pub record Counted (ok : ℕ → Bool) (l : List ℕ) (n i : ℕ) : Type 0 where
+  pub within : i ≤ length l
+  pub few : n ≤ i
+  pub rest : n + count ok (drop i l) ≡ count ok l
+
+one-most : (b : Bool) → cond b 1 0 ≤ 1
+one-most true = omega arith
+one-most false = omega arith
+
+module _ (ok : ℕ → Bool) (l : List ℕ) where
+  pub counted-none : Counted ok l 0 0
+  counted-none = record { within = zero-le; few = zero-le; rest = omega arith }
+
+  pub counted-more : (n i v : ℕ) → Counted ok l n i → i < length l → v ≡ cond (ok (getD l i 0)) 1 0 → Counted ok l (n + v) (i + 1)
+  unfolding count
+  counted-more n i v w h e =
+      let next : drop i l ≡ getD l i 0 ∷ drop (i + 1) l = drop-cons l i 0 h ∙ ap (λ (k : ℕ). getD l i 0 ∷ drop k l) (sym (add-one i)) in
+      let more : count ok (drop i l) ≡ v + count ok (drop (i + 1) l) = ap (count ok) next ∙ ap (λ (t : ℕ). t + count ok (drop (i + 1) l)) (sym e) in
+      record { within = omega arith; few = omega (arith, w .few, e, one-most (ok (getD l i 0))); rest = omega (arith, w .rest, more) }
+
+  pub counted-all : (n i : ℕ) → Counted ok l n i → length l ≤ i → n ≡ count ok l
+  unfolding count
+  counted-all n i w h = let none : count ok (drop i l) ≡ 0 = ap (count ok) (drop-of-length-le l h) in omega (arith, w .rest, none)

@@ -1,0 +1,81 @@
+-- `fill::fill_cavities` meets its contract: the first phase, the phases in turn, and the last step. Assumes nothing.
+use borrow.Author.Needs.{needs}
+use mathlib.Core.Path.{refl, sym, subst, _∙_}
+use mathlib.Core.List.{List}
+use Prim.Native.Nat.{ℕ, _+_}
+use native.Mathlib.Omega.{arith}
+use Rattle.grid.proofs.Cells.{cells-max}
+use Rattle.spread.specs.declared.Phase.{Phase}
+use Rattle.spread.specs.Run.{Run, Proper}
+use Rattle.spread.proofs.Turns.{sheet-kept}
+use Rattle.fill.specs.Phases.{becomes, seeded, outward, CavityRun}
+use Rattle.fill.proofs.Passes.{within-map}
+use Rattle.fill.proofs.Swings.{outward-proper, cavities-few}
+use Rattle.fill.proofs.Meaning.{seeded-size, same-surface}
+use Rattle.fill.proofs.fill_cavities.Statement.{statement}
+use Rattle.fill.proofs.fill_cavities.Tie as tie
+
+-- the first phase, from the seeded labels
+first-phase : (c : tie.After-count-left) → Run (outward 4) (c .before .before .before .before .before .before .before .before .before .before .before .before .before .before .before .before .before .before .before .before .args .r) (seeded (c .before .before .before .before .before .before .before .before .before .before .before .before .before .before .before .before .before .before .before .before .args .r) (c .before .before .before .before .before .before .before .before .before .before .before .before .before .before .before .before .before .before .before .before .args .labels .now)) (c .before .before .before .before .before .before .before .before .before .before .before .before .run .last .0) (c .before .before .before .before .before .before .before .before .before .before .before .before .run .result)
+first-phase c =
+    let r = c .before .before .before .before .before .before .before .before .before .before .before .before .before .before .before .before .before .before .before .before .args .r in
+    let e = c .before .before .before .before .before .before .before .before .before .before .before .before .run .last .0 in
+    let n = c .before .before .before .before .before .before .before .before .before .before .before .before .run .result in
+    subst (λ (p : Phase). Run p r (seeded r (c .before .before .before .before .before .before .before .before .before .before .before .before .before .before .before .before .before .before .before .before .args .labels .now)) e n) (c .before .before .before .before .before .before .before .before .before .before .before .before .before .before .outward-with .ensures)
+    (subst (λ (s : List ℕ). Run (c .before .before .before .before .before .before .before .before .before .before .before .before .before .before .outward-with .result) r s e n) (c .before .before .before .before .before .before .before .before .before .before .before .before .before .before .before .before .before .seed .ensures) (c .before .before .before .before .before .before .before .before .before .before .before .before .run .ensures))
+
+seed-requires : tie.Need-seed-requires
+seed-requires c κs = c .before .before .pre .0
+
+outward-with-requires : tie.Need-outward-with-requires
+outward-with-requires c κs = search needs
+
+run-requires : tie.Need-run-requires
+run-requires c κs = (sheet-kept _ _ _ (c .before .before .before .before .seed .kept .0) (c .before .before .before .before .before .before .before .pre .0), subst Proper (sym (c .before .outward-with .ensures)) (outward-proper 4 (omega arith)))
+
+turns-requires : tie.Need-turns-requires
+turns-requires c κs = sheet-kept _ _ _ (c .before .before .before .run .kept .0 ∙ c .before .before .before .before .before .before .before .before .seed .kept .0) (c .before .before .before .before .before .before .before .before .before .before .before .pre .0)
+
+replace-requires : tie.Need-replace-requires
+replace-requires c κs = (omega arith, omega (arith, c .before .before .before .turns .kept .0, c .before .before .before .before .before .before .before .run .kept .0, c .before .before .before .before .before .before .before .before .before .before .before .before .seed .kept .0))
+
+count-left-requires : tie.Need-count-left-requires
+count-left-requires c κs = search needs
+
+add-t19 : tie.Need-add-t19
+add-t19 c = let a = c .before .before .before .before .before .before .before .before .before .before .before .before .before .before .before .before .before .before .before .before in
+    omega (arith, cavities-few (a .args .r) (seeded (a .args .r) (a .args .labels .now)) _ _ _ _ (seeded-size (a .args .r) (a .args .labels .now) (a .pre .0 .size) (a .pre .1)) (first-phase c) (c .before .before .before .before .before .before .before .before .turns .ensures), cells-max (a .args .r) (a .pre .0 .sound))
+
+same-length : tie.Need-same-length
+same-length c = c .before .before .before .before .replace .kept .0 ∙ c .before .before .before .before .before .before .before .before .turns .kept .0 ∙ c .before .before .before .before .before .before .before .before .before .before .before .before .run .kept .0 ∙ c .before .before .before .before .before .before .before .before .before .before .before .before .before .before .before .before .before .seed .kept .0
+
+returns : tie.Need-returns
+returns c = let a = c .before .before .before .before .before .before .before .before .before .before .before .before .before .before .before .before .before .before .before .before in
+    let l = a .args .labels .now in
+    let f = c .before .before .before .before .replace .last .0 in
+    let ended = c .before .before .before .before .before .before .before .before .turns .last .0 in
+    let ran : CavityRun (a .args .r) l f (c .before .before .before .before .before .before .before .before .before .before .before .before .run .result + c .before .before .before .before .before .before .before .before .turns .result) = record {
+      walked = c .before .before .before .before .before .before .before .before .before .before .before .before .run .last .0;
+      ended = ended;
+      first = c .before .before .before .before .before .before .before .before .before .before .before .before .run .result;
+      later = c .before .before .before .before .before .before .before .before .turns .result;
+      phase = first-phase c;
+      turns = c .before .before .before .before .before .before .before .before .turns .ensures;
+      labels = within-map (becomes 3 5 8) _ ended f (omega (arith, c .before .before .before .before .before .before .before .before .turns .kept .0, c .before .before .before .before .before .before .before .before .before .before .before .before .run .kept .0, c .before .before .before .before .before .before .before .before .before .before .before .before .before .before .before .before .before .seed .kept .0)) (c .before .before .before .before .replace .ensures);
+      both = refl;
+    } in
+    (record { scanned = ran; counted = c .count-left .ensures }, same-surface (a .args .r) l (a .pre .0 .size) (a .pre .1) f _ ran)
+
+pub fill-cavities-spec : {M : Type 1} → statement M
+fill-cavities-spec =
+    tie.close
+    (tie.spec
+    seed-requires
+    outward-with-requires
+    run-requires
+    turns-requires
+    replace-requires
+    count-left-requires
+    add-t19
+    same-length
+    returns)

@@ -1,0 +1,14 @@
+-- `fill::turned` meets its contract, by the test. Assumes nothing.
+use mathlib.Core.Bool.{Bool, cond}
+use mathlib.Core.Path.{sym, ap}
+use Rattle.fill.proofs.turned.Statement.{statement}
+use Rattle.fill.proofs.turned.Tie as tie
+
+returns : tie.Need-returns
+returns c = sym (ap (λ (b : Bool). cond b (c .before .args .new) (c .before .args .label)) (c .if1 .taken))
+
+returns-2 : tie.Need-returns-2
+returns-2 c = sym (ap (λ (b : Bool). cond b (c .before .args .new) (c .before .args .label)) (c .if1 .left))
+
+pub turned-spec : {M : Type 1} → statement M
+turned-spec = tie.close (tie.spec returns returns-2)

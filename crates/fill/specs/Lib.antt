@@ -1,0 +1,3 @@
+pub mod Phases
+pub mod Modes
+pub mod Passes

@@ -1,0 +1,71 @@
+-- 01, Fill: the whole call, as a procedure and as what it means. Definitions only.
+use mathlib.Core.Bool.{Bool, true, false}
+use mathlib.Core.Logic.{_↔_}
+use mathlib.Core.Path.{_≡_}
+use mathlib.Core.List.{List, map}
+use Prim.Native.Nat.{ℕ, _+_, _≤_}
+use lib.Dec.{eqb}
+use lib.ListN.{length}
+use Rattle.grid.specs.declared.Axes.{Axes}
+use Rattle.grid.specs.declared.Cell.{Cell}
+use Rattle.grid.specs.declared.Checked.{Checked}
+use Rattle.grid.specs.declared.LabelSet.{LabelSet}
+use Rattle.grid.specs.Answers.{Outcome, answers, refuses, _andThen_}
+use Rattle.grid.specs.Checks.{gridFault, labelsFault}
+use Rattle.grid.specs.Counts.{count, countOf}
+use Rattle.grid.specs.Flood.{Flooded}
+use Rattle.grid.specs.Grid.{InGrid, at}
+use Rattle.fill.specs.declared.Mode.{Mode}
+use Rattle.fill.specs.declared.Mode.the-variants.{SurfaceOnly, Flood, Cavities}
+use Rattle.fill.specs.declared.Counts.{Counts}
+use Rattle.fill.specs.declared.Filling.{Filling}
+use Rattle.fill.specs.declared.Filling.the-variants.{Filled, Refused}
+use Rattle.fill.specs.Phases.{surfaceOnly, FloodRun, CavityRun}
+
+-- 01's number and values for each case of `Filling`
+abbrev pub outcome : Filling → Outcome Counts
+outcome (Filled n) = answers n
+outcome (Refused f) = refuses (f .number) (f .place)
+
+-- "marks of 0 and 8 only (else 11)", after 8 and 9
+abbrev pub marks : LabelSet
+marks = record { l0 = true; l1 = false; l2 = false; l3 = false; l4 = false; l5 = false; l6 = false; l7 = false; l8 = true }
+
+abbrev pub fillFault : Axes → List ℕ → Checked
+fillFault r l = gridFault r (length l) andThen labelsFault marks l
+
+-- "the cells left, which is how many labels are 0 at the end". Nothing else says what is left
+abbrev pub isLeft : ℕ → Bool
+isLeft v = eqb v 0
+
+abbrev pub left : List ℕ → ℕ
+left l = count isLeft l
+
+-- ---- the procedure: "the answer reports the number of whole-grid scans, all phases together, and the cells left"
+
+abbrev pub Scans : Mode → Axes → List ℕ → List ℕ → ℕ → Type 0
+Scans SurfaceOnly r before after n = (after ≡ map surfaceOnly before) × (n ≡ 0)
+Scans Flood r before after n = FloodRun r before after n
+Scans Cavities r before after n = CavityRun r before after n
+
+pub record Fills (mode : Mode) (r : Axes) (before : List ℕ) (n : Counts) (after : List ℕ) : Type 0 where
+  pub scanned : Scans mode r before after (n .scans)
+  pub counted : n .left ≡ left after
+
+-- ---- the meaning
+
+-- a label is v where the one before was no 8, and 8 exactly where it was
+pub record AllBut8 (r : Axes) (v : ℕ) (before after : List ℕ) : Type 0 where
+  pub size : length after ≡ length before
+  pub surfaces : (c : Cell) → InGrid r c → at r before c ≡ 8 → at r after c ≡ 8
+  pub others : (c : Cell) → InGrid r c → (at r before c ≡ 8 → ⊥) → at r after c ≡ v
+
+-- surface cells are the same before and after
+abbrev pub SameSurface : Axes → List ℕ → List ℕ → Type 0
+SameSurface r before after = (c : Cell) → InGrid r c → (at r after c ≡ 8) ↔ (at r before c ≡ 8)
+
+-- surface-only: every other cell is 6, in 0 scans. Flood: demand 2, none left, and "scans are at most the Outside cells plus 1". With cavities: surface cells stay surface; which other cells get which label, only the scans say
+abbrev pub Means : Mode → Axes → List ℕ → Counts → List ℕ → Type 0
+Means SurfaceOnly r before n after = AllBut8 r 6 before after × (n .scans ≡ 0) × (n .left ≡ 0)
+Means Flood r before n after = Flooded r before after × (n .left ≡ 0) × (n .scans ≤ countOf 6 after + 1)
+Means Cavities r before n after = SameSurface r before after

@@ -1,0 +1,64 @@
+-- 01, Fill: the seeding, the phases and the last step of each mode. Definitions only.
+--
+-- "Labels by order in V's enum: 0 Undefined, 1 outside-to-walk, 2 inside-to-walk, 3 no-walk, 4 surface-walk-1, 5 surface-walk-2, 6 Outside, 7 Inside, 8 surface."
+use mathlib.Core.Bool.{Bool, true, false, not, cond, _&&_}
+use mathlib.Core.Path.{_≡_}
+use mathlib.Core.List.{List, map}
+use Prim.Native.Nat.{ℕ, suc, _+_}
+use lib.Dec.{eqb, leb}
+use Rattle.grid.specs.declared.Axes.{Axes}
+use Rattle.grid.specs.declared.Cell.{Cell}
+use Rattle.grid.specs.Grid.{at, labelsBy, onBorder}
+use Rattle.spread.specs.declared.Phase.{Phase}
+use Rattle.spread.specs.declared.Walkers.the-variants.{Nobody, Those}
+use Rattle.spread.specs.Run.{Run}
+
+-- the labels from low to high become new, and another stays
+abbrev pub becomes : ℕ → ℕ → ℕ → ℕ → ℕ
+becomes low high new v = cond (leb low v && leb v high) new v
+
+-- "All border cells with label 0 become 1"
+abbrev pub seedOf : Axes → List ℕ → Cell → ℕ
+seedOf r l c = cond (onBorder r c) (becomes 0 0 1 (at r l c)) (at r l c)
+
+abbrev pub seeded : Axes → List ℕ → List ℕ
+seeded r l = labelsBy r (seedOf r l)
+
+-- ---- the phases
+
+-- the first phase: "1 to 6, no walkers", and the label that it gives a surface
+abbrev pub outward : ℕ → Phase
+outward mark = record { pass = 0; todo = 1; done = 6; walkers = Nobody; mark = mark }
+
+-- "phase (2 to 7, walkers 4, mark 5) and phase (1 to 6, walkers 5, mark 4)": inward, and outward again
+abbrev pub phaseOf : Bool → Phase
+phaseOf true = record { pass = 0; todo = 2; done = 7; walkers = Those 4; mark = 5 }
+phaseOf false = record { pass = 0; todo = 1; done = 6; walkers = Those 5; mark = 4 }
+
+-- "in turn ... until one has walked none in all its scans": a phase that walked none is one scan long, since a scan that walked some is not its last
+pub data Alternate (r : Axes) : Bool → List ℕ → List ℕ → ℕ → Type 0 where
+  last : {b : Bool} {l e : List ℕ} → Run (phaseOf b) r l e 1 → Alternate r b l e 1
+  again : {b : Bool} {l m e : List ℕ} {k n : ℕ} → Run (phaseOf b) r l m (suc (suc k)) → Alternate r (not b) m e n → Alternate r b l e (suc (suc k) + n)
+
+-- ---- the modes: from the labels before, the labels after and the scans
+
+-- "Surface-only is no fill: it makes every non-8 label 6 in 0 scans"
+abbrev pub surfaceOnly : ℕ → ℕ
+surfaceOnly v = cond (eqb v 8) 8 6
+
+-- "Without cavities: one phase (1 to 6, no walkers, surface stays 8), then 0 becomes 7"
+pub record FloodRun (r : Axes) (before after : List ℕ) (scans : ℕ) : Type 0 where
+  pub ended : List ℕ
+  pub phase : Run (outward 8) r (seeded r before) ended scans
+  pub labels : after ≡ map (becomes 0 0 7) ended
+
+-- "With cavities: phase 1 to 6 with mark 4; then in turn phase (2 to 7 ...) and phase (1 to 6 ...) ...; last 3, 4, 5 become 8"
+pub record CavityRun (r : Axes) (before after : List ℕ) (scans : ℕ) : Type 0 where
+  pub walked : List ℕ
+  pub ended : List ℕ
+  pub first : ℕ
+  pub later : ℕ
+  pub phase : Run (outward 4) r (seeded r before) walked first
+  pub turns : Alternate r true walked ended later
+  pub labels : after ≡ map (becomes 3 5 8) ended
+  pub both : scans ≡ first + later

@@ -1,0 +1,292 @@
+// The fill: which cells are Outside and which Inside, from the surface cells.
+ghost use mathlib.Core.Path.{_≡_};
+ghost use mathlib.Core.Bool.{true, cond};
+ghost use Prim.Native.Nat.{_+_, _*_, _≤_, _<_};
+ghost use lib.ListN.{length};
+ghost use Rattle.grid.specs.Answers.{Ends};
+ghost use Rattle.grid.specs.Grid.{InGrid, num, Sheet};
+ghost use Rattle.spread.specs.Run.{Run};
+ghost use Rattle.fill.specs.declared.Mode.the-variants.{SurfaceOnly, Flood, Cavities};
+ghost use Rattle.fill.specs.Phases.{becomes, seeded, outward, phaseOf, Alternate};
+ghost use Rattle.fill.specs.Modes.{outcome, marks, fillFault, isLeft, left, Fills, Means};
+ghost use Rattle.fill.specs.Passes.{Within, seedAt, Alike, Marks};
+use grid::Axes;
+use grid::Cell;
+use grid::Checked;
+use grid::LabelSet;
+use grid::Refusal;
+use spread::Phase;
+use spread::Walkers;
+
+pub enum Mode {
+    SurfaceOnly,
+    Flood,
+    Cavities,
+}
+
+// How many scans of the whole grid there were, and how many cells are left.
+pub struct Counts {
+    pub scans: usize,
+    pub left: usize,
+}
+
+// What a fill answers; the fill itself is in the labels.
+pub enum Filling {
+    Filled(Counts),
+    Refused(Refusal),
+}
+
+// ---- passes in memory order
+
+fn turned(low: u8, high: u8, new: u8, label: u8) -> u8
+    ensures { λ v. ⌜ v ≡ becomes low high new label ⌝ }
+{
+    if (low <= label) & (label <= high) {
+        new
+    } else {
+        label
+    }
+}
+
+// The labels from `low` to `high` become `new`, at the places from `from` up to, not including, `to`.
+fn replace(labels: &mut [u8], from: usize, to: usize, low: u8, high: u8, new: u8)
+    requires { ⌜ (from ≤ to) × (to ≤ length (now labels)) ⌝ }
+    ensures { λ _. ⌜ Within from to (λ n. becomes low high new) (now (labels .entry)) (now (labels .exit)) ⌝ }
+{
+    let mut n = from;
+    while n < to {
+        let v = turned(low, high, new, labels[n]);
+        labels[n] = v;
+        n += 1;
+    }
+}
+
+fn one_if_left(label: u8) -> usize
+    ensures { λ n. ⌜ n ≡ cond (isLeft label) 1 0 ⌝ }
+{
+    if label == 0 { 1 } else { 0 }
+}
+
+fn count_left(labels: &[u8]) -> usize
+    ensures { λ n. ⌜ n ≡ left (now (labels .entry)) ⌝ }
+{
+    let mut n = 0usize;
+    let mut i = 0usize;
+    while i < labels.len() {
+        n += one_if_left(labels[i]);
+        i += 1;
+    }
+    n
+}
+
+// ---- seeding
+
+// Cells with consecutive numbers, all of them border cells or none, as c is.
+fn seed_part(labels: &mut [u8], r: Axes, c: Cell, from: usize, to: usize)
+    requires { ⌜ (from ≤ to) × (to ≤ length (now labels)) ⌝ }
+    requires { ⌜ InGrid r c × Alike r c from to ⌝ }
+    ensures { λ _. ⌜ Within from to (seedAt r) (now (labels .entry)) (now (labels .exit)) ⌝ }
+{
+    if grid::on_border(r, c) {
+        replace(labels, from, to, 0, 0, 1);
+    }
+}
+
+// A row along i, whose first cell's number is `first`: that cell, those between, and the last.
+fn seed_row(labels: &mut [u8], r: Axes, j: usize, k: usize, first: usize)
+    requires { ⌜ Sheet r (now labels) ⌝ }
+    requires { ⌜ InGrid r (record { i = 0; j = j; k = k }) × (first ≡ num r (record { i = 0; j = j; k = k })) ⌝ }
+    ensures { λ _. ⌜ Within first (first + r .r0) (seedAt r) (now (labels .entry)) (now (labels .exit)) ⌝ }
+{
+    let n = r.r0;
+    seed_part(labels, r, Cell { i: 0, j, k }, first, first + 1);
+    if n == 1 {
+        return;
+    }
+    let last = first + n - 1;
+    seed_part(labels, r, Cell { i: 1, j, k }, first + 1, last);
+    seed_part(labels, r, Cell { i: n - 1, j, k }, last, last + 1);
+}
+
+fn seed_layer(labels: &mut [u8], r: Axes, k: usize, first: usize)
+    requires { ⌜ Sheet r (now labels) ⌝ }
+    requires { ⌜ (k < r .r2) × (first ≡ k * (r .r0 * r .r1)) ⌝ }
+    ensures { λ _. ⌜ Within first (first + r .r0 * r .r1) (seedAt r) (now (labels .entry)) (now (labels .exit)) ⌝ }
+{
+    let n = r.r1;
+    let row = r.r0;
+    let mut at = first;
+    let mut j = 0usize;
+    while j < n {
+        seed_row(labels, r, j, k, at);
+        at += row;
+        j += 1;
+    }
+}
+
+fn seed(labels: &mut [u8], r: Axes)
+    requires { ⌜ Sheet r (now labels) ⌝ }
+    ensures { λ _. ⌜ now (labels .exit) ≡ seeded r (now (labels .entry)) ⌝ }
+{
+    let n = r.r2;
+    let layer = r.r0 * r.r1;
+    let mut at = 0usize;
+    let mut k = 0usize;
+    while k < n {
+        seed_layer(labels, r, k, at);
+        at += layer;
+        k += 1;
+    }
+}
+
+// ---- phases
+
+// The first phase, and the label that it gives a surface.
+fn outward_with(mark: u8) -> Phase
+    ensures { λ p. ⌜ p ≡ outward mark ⌝ }
+{
+    Phase {
+        pass: 0,
+        todo: 1,
+        done: 6,
+        walkers: Walkers::Nobody,
+        mark,
+    }
+}
+
+fn phase_of(inward: bool) -> Phase
+    ensures { λ p. ⌜ p ≡ phaseOf inward ⌝ }
+{
+    if inward {
+        return Phase {
+            pass: 0,
+            todo: 2,
+            done: 7,
+            walkers: Walkers::Those(4),
+            mark: 5,
+        };
+    }
+    Phase {
+        pass: 0,
+        todo: 1,
+        done: 6,
+        walkers: Walkers::Those(5),
+        mark: 4,
+    }
+}
+
+// One phase, inward or outward.
+fn turn(labels: &mut [u8], r: Axes, inward: bool) -> usize
+    requires { ⌜ Sheet r (now labels) ⌝ }
+    ensures { λ n. ⌜ Run (phaseOf inward) r (now (labels .entry)) (now (labels .exit)) n ⌝ }
+{
+    let p = phase_of(inward);
+    spread::run(labels, p, r)
+}
+
+// Phases inward and outward in turn, until one has walked none; answers the number of scans.
+fn turns(labels: &mut [u8], r: Axes) -> usize
+    requires { ⌜ Sheet r (now labels) ⌝ }
+    ensures { λ n. ⌜ Alternate r true (now (labels .entry)) (now (labels .exit)) n ⌝ }
+{
+    let mut scans = 0usize;
+    let mut inward = true;
+    loop {
+        let n = turn(labels, r, inward);
+        scans += n;
+        if n == 1 {
+            return scans;
+        }
+        inward = !inward;
+    }
+}
+
+// ---- modes
+
+fn keep_surface(labels: &mut [u8], r: Axes) -> Counts
+    requires { ⌜ Sheet r (now labels) × Marks (now labels) ⌝ }
+    ensures { λ n. ⌜ Fills SurfaceOnly r (now (labels .entry)) n (now (labels .exit)) ⌝ }
+    ensures { λ n. ⌜ Means SurfaceOnly r (now (labels .entry)) n (now (labels .exit)) ⌝ }
+{
+    let len = labels.len();
+    replace(labels, 0, len, 0, 7, 6);
+    Counts { scans: 0, left: 0 }
+}
+
+fn fill_flood(labels: &mut [u8], r: Axes) -> Counts
+    requires { ⌜ Sheet r (now labels) × Marks (now labels) ⌝ }
+    ensures { λ n. ⌜ Fills Flood r (now (labels .entry)) n (now (labels .exit)) ⌝ }
+    ensures { λ n. ⌜ Means Flood r (now (labels .entry)) n (now (labels .exit)) ⌝ }
+{
+    let len = labels.len();
+    seed(labels, r);
+    let p = outward_with(8);
+    let scans = spread::run(labels, p, r);
+    replace(labels, 0, len, 0, 0, 7);
+    Counts { scans, left: 0 }
+}
+
+fn fill_cavities(labels: &mut [u8], r: Axes) -> Counts
+    requires { ⌜ Sheet r (now labels) × Marks (now labels) ⌝ }
+    ensures { λ n. ⌜ Fills Cavities r (now (labels .entry)) n (now (labels .exit)) ⌝ }
+    ensures { λ n. ⌜ Means Cavities r (now (labels .entry)) n (now (labels .exit)) ⌝ }
+{
+    let len = labels.len();
+    seed(labels, r);
+    let p = outward_with(4);
+    let first = spread::run(labels, p, r);
+    let later = turns(labels, r);
+    replace(labels, 0, len, 3, 5, 8);
+    let left = count_left(labels);
+    Counts {
+        scans: first + later,
+        left,
+    }
+}
+
+fn fill_by(labels: &mut [u8], r: Axes, mode: Mode) -> Counts
+    requires { ⌜ Sheet r (now labels) × Marks (now labels) ⌝ }
+    ensures { λ n. ⌜ Fills mode r (now (labels .entry)) n (now (labels .exit)) ⌝ }
+    ensures { λ n. ⌜ Means mode r (now (labels .entry)) n (now (labels .exit)) ⌝ }
+{
+    match mode {
+        Mode::SurfaceOnly => keep_surface(labels, r),
+        Mode::Flood => fill_flood(labels, r),
+        Mode::Cavities => fill_cavities(labels, r),
+    }
+}
+
+fn taken_marks() -> LabelSet
+    ensures { λ s. ⌜ s ≡ marks ⌝ }
+{
+    LabelSet {
+        l0: true,
+        l1: false,
+        l2: false,
+        l3: false,
+        l4: false,
+        l5: false,
+        l6: false,
+        l7: false,
+        l8: true,
+    }
+}
+
+fn fill_fault(labels: &[u8], r: Axes) -> Checked
+    ensures { λ f. ⌜ f ≡ fillFault r (now (labels .entry)) ⌝ }
+{
+    let grid_part = grid::grid_fault(r, labels.len());
+    let label_part = grid::labels_fault(labels, taken_marks());
+    grid::and_then(grid_part, label_part)
+}
+
+// Fills a map whose labels are 0 and 8, or refuses and writes nothing.
+pub fn fill(labels: &mut [u8], r: Axes, mode: Mode) -> Filling
+    ensures { λ f. ⌜ Ends (fillFault r (now (labels .entry))) (now (labels .entry)) (Fills mode r (now (labels .entry))) (outcome f) (now (labels .exit)) ⌝ }
+    ensures { λ f. ⌜ Ends (fillFault r (now (labels .entry))) (now (labels .entry)) (Means mode r (now (labels .entry))) (outcome f) (now (labels .exit)) ⌝ }
+{
+    match fill_fault(labels, r) {
+        Checked::Fault(f) => Filling::Refused(f),
+        Checked::Fine => Filling::Filled(fill_by(labels, r, mode)),
+    }
+}
