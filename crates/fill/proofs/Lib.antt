@@ -1,3 +1,4 @@
 pub mod Passes
 pub mod Swings
 pub mod Meaning
+pub mod Laws

@@ -104,41 +104,6 @@ fn reduced(x: usize) -> u64
     (x % 4294967291) as u64
 }
 
-fn wide(label: u8) -> usize {
-    label as usize
-}
-
-fn folded(s: u64, x: usize) -> u64 {
-    (s % 4294967291 * 31 + reduced(x) + 1) % 4294967291
-}
-
-// A number that depends on every label and its place, and on s.
-fn sum(s: u64, labels: &[u8]) -> u64 {
-    let mut t = s;
-    let mut i = 0usize;
-    while i < labels.len() {
-        t = folded(t, wide(labels[i]));
-        i += 1;
-    }
-    t
-}
-
-fn one_if(same: bool) -> usize
-    ensures { λ n. ⌜ n ≤ 1 ⌝ }
-{
-    if same { 1 } else { 0 }
-}
-
-fn cells_with(labels: &[u8], label: u8) -> usize {
-    let mut n = 0usize;
-    let mut i = 0usize;
-    while i < labels.len() {
-        n += one_if(labels[i] == label);
-        i += 1;
-    }
-    n
-}
-
 // ---- a case of one grid
 
 fn report(f: Filling, labels: &[u8]) {
@@ -147,9 +112,9 @@ fn report(f: Filling, labels: &[u8]) {
             replay::text(b"filled ");
             replay::number(c.scans as u64);
             replay::number(c.left as u64);
-            replay::number(cells_with(labels, 6) as u64);
-            replay::number(cells_with(labels, 7) as u64);
-            replay::number(cells_with(labels, 8) as u64);
+            replay::number(replay::cells_with(labels, 6));
+            replay::number(replay::cells_with(labels, 7));
+            replay::number(replay::cells_with(labels, 8));
         }
         Filling::Refused(f) => {
             replay::text(b"refused ");
@@ -157,7 +122,7 @@ fn report(f: Filling, labels: &[u8]) {
             replay::number(f.place as u64);
         }
     }
-    replay::number(sum(0, labels));
+    replay::number(replay::sum(0, labels));
     replay::text(b"\n");
 }
 
@@ -204,11 +169,11 @@ fn tallied(t: Tally, labels: &mut [u8], r: Axes, mode: Mode) -> Tally
     ensures { λ u. ⌜ (u .scans ≤ t .scans + 4294967291) × (u .left ≤ t .left + 4294967291) ⌝ }
 {
     let c = counts_of(fill::fill(labels, r, mode));
-    let s = sum(t.sum, labels);
+    let s = replay::sum(t.sum, labels);
     Tally {
         scans: t.scans + reduced(c.scans),
         left: t.left + reduced(c.left),
-        sum: folded(folded(s, c.scans), c.left),
+        sum: replay::folded(replay::folded(s, c.scans as u64), c.left as u64),
     }
 }
 

@@ -61,6 +61,16 @@ module _ (ns : List ℕ) where
   finds-then (Fault f) b h r = h
   finds-then Fine b h r = r
 
+  -- a check of every element has its own number; 8 and 9 are those of a grid
+  pub finds-first : {A : Type 0} (n : ℕ) (place : ℕ → ℕ) (ok : A → Bool) (xs : List A) → T (isOneOf n ns) → Finds ns (firstFault n place ok xs)
+  finds-first n place ok xs h = finds-if (ltb (firstNot ok xs) (length xs)) n (place (firstNot ok xs)) Fine h tt
+
+  pub finds-axes : (r : Axes) → T (isOneOf 8 ns) → Finds ns (axesFault r)
+  finds-axes r h = finds-if (badAxis (r .r0)) 8 0 _ h (finds-if (badAxis (r .r1)) 8 1 _ h (finds-if (badAxis (r .r2)) 8 2 Fine h tt))
+
+  pub finds-grid : (r : Axes) (len : ℕ) → T (isOneOf 8 ns) → T (isOneOf 9 ns) → Finds ns (gridFault r len)
+  finds-grid r len h g = finds-then (axesFault r) (bufferFault r len) (finds-axes r h) (finds-if (not (eqb len (cells r))) 9 0 Fine g tt)
+
   pub gives-unless : {A : Type 0} (f : Checked) (o : Outcome A) → Finds ns f → (f ≡ Fine → Gives ns o) → Gives ns (unless f o)
   gives-unless (Fault f) o h r = h
   gives-unless Fine o h r = r refl

@@ -54,38 +54,11 @@ fn pattern() -> [u8; 65536]
     out
 }
 
-fn one_if_surface(label: u8) -> u64
-    ensures { λ n. ⌜ n ≤ 1 ⌝ }
-{
-    if label == 8 { 1 } else { 0 }
-}
-
-fn surface_cells(labels: &[u8]) -> u64 {
-    let mut n = 0u64;
-    let mut i = 0usize;
-    while i < labels.len() {
-        n = n % 1000000000 + one_if_surface(labels[i]);
-        i += 1;
-    }
-    n
-}
-
-// A number that depends on every label and its place.
-fn sum(labels: &[u8]) -> u64 {
-    let mut s = 0u64;
-    let mut i = 0usize;
-    while i < labels.len() {
-        s = (s % 4294967291 * 31 + labels[i] as u64 + 1) % 4294967291;
-        i += 1;
-    }
-    s
-}
-
 fn report(m: Marking, labels: &[u8]) {
     match m {
         Marking::Marked => {
             replay::text(b"marked ");
-            replay::number(surface_cells(labels));
+            replay::number(replay::cells_with(labels, 8));
         }
         Marking::Refused(f) => {
             replay::text(b"refused ");
@@ -93,7 +66,7 @@ fn report(m: Marking, labels: &[u8]) {
             replay::number(f.place as u64);
         }
     }
-    replay::number(sum(labels));
+    replay::number(replay::sum(0, labels));
     replay::text(b"\n");
 }
 

@@ -16,13 +16,11 @@ use Rattle.grid.specs.declared.Cell.{Cell}
 use Rattle.grid.specs.declared.Placement.{Placement}
 use Rattle.grid.specs.declared.Checked.{Checked}
 use Rattle.grid.specs.declared.Checked.the-variants.{Fine, Fault}
-use Rattle.grid.specs.Answers.{Outcome, answers, refuses, Finds, Gives, isOneOf, unless, lentAfter}
-use Rattle.grid.specs.First.{firstNot}
-use Rattle.grid.specs.Checks.{firstFault, badAxis, axesFault}
+use Rattle.grid.specs.Answers.{Outcome, answers, refuses, Finds, Gives, unless, lentAfter}
 use Rattle.grid.specs.Grid.{Sound, InGrid, cells, num, at}
 use Rattle.grid.proofs.First.{some-below}
 use Rattle.grid.proofs.Cells.{num-lt, labels-length, labels-one, labels-at}
-use Rattle.grid.proofs.Checks.{passed, or-false, not-false, finds-if, finds-then, gives-unless}
+use Rattle.grid.proofs.Checks.{passed, or-false, not-false, finds-if, finds-then, finds-first, finds-grid, gives-unless}
 use Rattle.ints.specs.Bound.{cons3}
 use Rattle.sizing.specs.Points.{bounded, lengthFault}
 use Rattle.sizing.specs.Sizing.{points}
@@ -69,25 +67,19 @@ mark-numbers ps ts r at l = gives-unless ns (meshFault ps ts r at (length l)) (a
     lengths : (n : ℕ) → Finds ns (lengthFault n)
     lengths n = finds-if ns (not (eqb (n % 3) 0) || ltb 65536 (n / 3)) 1 0 Fine tt tt
 
-    each : {A : Type 0} (k : ℕ) → T (isOneOf k ns) → (place : ℕ → ℕ) (ok : A → Bool) (xs : List A) → Finds ns (firstFault k place ok xs)
-    each k h place ok xs = finds-if ns (ltb (firstNot ok xs) (length xs)) k (place (firstNot ok xs)) Fine h tt
-
-    axes : Finds ns (axesFault r)
-    axes = finds-if ns (badAxis (r .r0)) 8 0 _ tt (finds-if ns (badAxis (r .r1)) 8 1 _ tt (finds-if ns (badAxis (r .r2)) 8 2 Fine tt tt))
-
     input : Finds ns (inputFault ps ts r at (length l))
     input =
         finds-then ns (lengthsFault ps ts) _
         (finds-then ns (lengthFault (length ps)) _ (lengths (length ps)) (finds-then ns (lengthFault (length ts)) _ (lengths (length ts)) (finds-if ns (eqb (length ps) 0) 2 0 Fine tt tt)))
         (finds-then ns (lentNumbersFault ps at) _
-        (finds-then ns (originFault at) _ (each 3 tt (λ n. 0 + n) (bounded 20) (at .x ∷ at .y ∷ at .z ∷ [])) (each 3 tt (λ n. 3 + n) (bounded 20) ps))
-        (finds-then ns (missingFault (points ps) ts) _ (each 4 tt (λ k. k / 3) (names (points ps)) ts)
+        (finds-then ns (originFault at) _ (finds-first ns 3 (λ n. 0 + n) (bounded 20) (at .x ∷ at .y ∷ at .z ∷ []) tt) (finds-first ns 3 (λ n. 3 + n) (bounded 20) ps tt))
+        (finds-then ns (missingFault (points ps) ts) _ (finds-first ns 4 (λ k. k / 3) (names (points ps)) ts tt)
         (finds-then ns (lentFault at) _
         (finds-if ns (not (le leastScale (at .scale) && le (at .scale) greatestScale && eq (at .reciprocal) (div binary32 (fin false 1 (pos 0)) (at .scale)))) 5 0 Fine tt tt)
-        (finds-then ns (axesFault r) _ axes (finds-if ns (not (eqb (length l) (cells r))) 9 0 Fine tt tt)))))
+        (finds-grid ns r (length l) tt tt))))
 
     all : Finds ns (meshFault ps ts r at (length l))
-    all = finds-then ns (inputFault ps ts r at (length l)) _ input (each 10 tt (λ k. k / 3) (λ v. onGrid r (vertexOf ps at v)) ts)
+    all = finds-then ns (inputFault ps ts r at (length l)) _ input (finds-first ns 10 (λ k. k / 3) (λ v. onGrid r (vertexOf ps at v)) ts tt)
 
 -- ---- two results that fit the promise are one
 

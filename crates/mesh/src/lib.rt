@@ -5,7 +5,6 @@ ghost use mathlib.Core.Bool.{true};
 ghost use Prim.Native.Nat.{_+_, _*_, _/_, _<_};
 ghost use lib.Dec.{ltb};
 ghost use lib.IntN.{pos};
-ghost use lib.ListN.{length};
 ghost use Rattle.grid.specs.Answers.{faultIf};
 ghost use Rattle.grid.specs.declared.Checked.the-variants.{Fine};
 ghost use Rattle.grid.specs.First.{firstNot};

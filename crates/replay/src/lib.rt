@@ -49,6 +49,44 @@ pub fn ones() -> [f32; 196620]
     [1.0f32; 196620]
 }
 
+// ---- labels
+
+fn one_if(same: bool) -> usize
+    ensures { λ n. ⌜ n ≤ 1 ⌝ }
+{
+    if same { 1 } else { 0 }
+}
+
+pub fn cells_with(labels: &[u8], label: u8) -> u64 {
+    let mut n = 0usize;
+    let mut i = 0usize;
+    while i < labels.len() {
+        n += one_if(labels[i] == label);
+        i += 1;
+    }
+    n as u64
+}
+
+fn wide(label: u8) -> u64 {
+    label as u64
+}
+
+// A number that depends on s and on x.
+pub fn folded(s: u64, x: u64) -> u64 {
+    (s % 4294967291 * 31 + x % 4294967291 + 1) % 4294967291
+}
+
+// A number that depends on s, on every label and on its place.
+pub fn sum(s: u64, labels: &[u8]) -> u64 {
+    let mut t = s;
+    let mut i = 0usize;
+    while i < labels.len() {
+        t = folded(t, wide(labels[i]));
+        i += 1;
+    }
+    t
+}
+
 // ---- output
 
 pub fn text(t: &[u8]) {

@@ -1,7 +1,7 @@
 -- 01, Sample maps: the starred samples as one table. A row has what is asked and the answer that 01 gives; where 01 names an extent, the points are the origin and the corner that it spans. Definitions only.
 use mathlib.Core.Path.{_≡_}
 use mathlib.Core.Bool.{false}
-use mathlib.Core.List.{List, [], _∷_}
+use mathlib.Core.List.{List, [], _∷_, _++_}
 use Prim.Native.Nat.{ℕ}
 use lib.IntN.{ℤ, pos, negsuc}
 use lib.ListN.{replicate}
@@ -10,10 +10,15 @@ use Rattle.numbers.specs.declared.Whole.the-variants.{Of}
 use Rattle.numbers.specs.Rounding.{nearestOf, parts, cellOf}
 use Rattle.grid.specs.declared.Axes.{Axes}
 use Rattle.grid.specs.declared.Cell.{Cell}
-use Rattle.grid.specs.Answers.{Outcome, answers}
+use Rattle.grid.specs.Answers.{Outcome, answers, Ends}
+use Rattle.grid.specs.Counts.{countOf}
 use Rattle.grid.specs.Grid.{num}
 use Rattle.sizing.specs.Sizing.{Laid, bySize, byResolution}
 use Rattle.marking.specs.Marked.{markAnswer, markLabels}
+use Rattle.fill.specs.declared.Counts.{Counts}
+use Rattle.fill.specs.declared.Mode.{Mode}
+use Rattle.fill.specs.declared.Mode.the-variants.{Flood, Cavities}
+use Rattle.fill.specs.Modes.{fillFault, Fills}
 
 pub data Sample : Type 0 where
   by-size : List Float → Float → Outcome Laid → Sample
@@ -21,6 +26,7 @@ pub data Sample : Type 0 where
   rounding : Float → ℤ → ℤ → Sample
   numbered : Axes → Cell → ℕ → Sample
   marking : List Float → List ℕ → Laid → List ℕ → List ℕ → Sample
+  filling : Axes → Mode → List ℕ → Counts → List ℕ → ℕ → ℕ → Sample
 
 abbrev pub Holds : Sample → Type 0
 Holds (by-size ps size o) = bySize ps size ≡ o
@@ -28,6 +34,8 @@ Holds (by-resolution ps r o) = byResolution ps r ≡ o
 Holds (rounding t q cell) = (nearestOf parts t ≡ Of q) × (cellOf q ≡ cell)
 Holds (numbered r c n) = num r c ≡ n
 Holds (marking ps ts l before after) = (markAnswer ps ts (l .axes) (l .placement) before ≡ answers tt) × (markLabels ps ts (l .axes) (l .placement) before ≡ after)
+Holds (filling r mode before n after outside inside) =
+    Ends (fillFault r before) before (Fills mode r before) (answers n) after × (countOf 6 after ≡ outside) × (countOf 7 after ≡ inside)
 
 abbrev pub All : List Sample → Type 0
 All [] = Unit
@@ -70,11 +78,38 @@ threePoints = f 0 ∷ f 0 ∷ f 0 ∷ two ∷ two ∷ two ∷ part 1 0 ∷ f 0 �
 abbrev pub twoTriangles : List ℕ
 twoTriangles = 2 ∷ 2 ∷ 2 ∷ 0 ∷ 0 ∷ 0 ∷ []
 
+-- scans, and cells left
+abbrev pub counts : ℕ → ℕ → Counts
+counts scans left = record { scans = scans; left = left }
+
+-- 3 by 3 by 3: all but the centre have one label, the centre another
+abbrev pub box : ℕ → ℕ → List ℕ
+box wall centre = replicate 13 wall ++ centre ∷ replicate 13 wall
+
+-- 5 by 5 by 5: the border cells, the 26 cells about the centre, and the centre
+abbrev pub cube : ℕ → ℕ → ℕ → List ℕ
+cube border wall centre = face ++ full ++ middle ++ full ++ face
+  where
+    face : List ℕ
+    face = replicate 25 border
+
+    row : ℕ → List ℕ
+    row v = border ∷ wall ∷ v ∷ wall ∷ border ∷ []
+
+    full : List ℕ
+    full = replicate 5 border ++ row wall ++ row wall ++ row wall ++ replicate 5 border
+
+    middle : List ℕ
+    middle = replicate 5 border ++ row wall ++ row centre ++ row wall ++ replicate 5 border
+
 -- "Extent 30: size 1.5 gives 21 cells, size 15 gives 3. Extent 0 gives 3." 1 / 1.5 is 11184811 / 2 ^ 24 and 1 / 15 is 8947849 / 2 ^ 27, each rounded once
 -- "R = 10, d = (4, 2, 1): axes 10, 7, 4, scale 4/9 rounded. R = 4, d = (2, 2, 1): 4, 6, 4." 4 / 9 is 14913081 / 2 ^ 25, of which 1 over is 9 / 4; 2 / 3 is 11184811 / 2 ^ 24
 -- "t = 0.25 is q 64, cell 0. t = 0.5 is q 128, cell 1."
 -- "Axes 3, 3, 3: cell (1, 2, 0) is number 7."
 -- "Points (0,0,0), (2,2,2), (0.5,0,0); triangles (2,2,2), (0,0,0); size 1": of the list that 01 gives, the cells that are surface, (0,0,0) and (1,0,0), which have the numbers 0 and 1
+-- that map filled: `outside 25`, `inside 0`, `left 0`, `scans 2`
+-- "3 by 3 by 3, all but the centre marked: flood makes the centre 7 in 1 scan; cavities leave it 0, left 1, 2 scans."
+-- "5 by 5 by 5, the 26 cells about the centre marked: 98 Outside, 1 Inside, 2 scans; with cavities the same labels, 5 scans."
 abbrev pub table : List Sample
 table =
     by-size (corner thirty (f 0) (f 0)) (part 3 0) (laid (axes 21 3 3) (part 3 0) (part 11184811 23))
@@ -86,4 +121,9 @@ table =
     ∷ numbered (axes 3 3 3) (record { i = 1; j = 2; k = 0 }) 7
     ∷ by-size threePoints (f 1) (laid (axes 3 3 3) (f 1) (f 1))
     ∷ marking threePoints twoTriangles (lies (axes 3 3 3) (f 1) (f 1)) (replicate 27 7) (8 ∷ 8 ∷ replicate 25 0)
+    ∷ filling (axes 3 3 3) Flood (8 ∷ 8 ∷ replicate 25 0) (counts 2 0) (8 ∷ 8 ∷ replicate 25 6) 25 0
+    ∷ filling (axes 3 3 3) Flood (box 8 0) (counts 1 0) (box 8 7) 0 1
+    ∷ filling (axes 3 3 3) Cavities (box 8 0) (counts 2 1) (box 8 0) 0 0
+    ∷ filling (axes 5 5 5) Flood (cube 0 8 0) (counts 2 0) (cube 6 8 7) 98 1
+    ∷ filling (axes 5 5 5) Cavities (cube 0 8 0) (counts 5 0) (cube 6 8 7) 98 1
     ∷ []

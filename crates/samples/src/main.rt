@@ -1,5 +1,7 @@
 // 01's samples, run one after the other: each line is held to the file `stdout`, which was written
 // from 01's text. Axes come before the bits of the origin, the scale and the reciprocal.
+use fill::Filling;
+use fill::Mode;
 use grid::Axes;
 use grid::Cell;
 use grid::Checked;
@@ -64,6 +66,72 @@ fn marks() {
     }
 }
 
+// Fills a map and shows scans, cells left, how many cells are Outside and Inside, and the labels.
+fn fill_and_show(labels: &mut [u8], r: Axes, mode: Mode) {
+    match fill::fill(labels, r, mode) {
+        Filling::Refused(f) => replay::checked(Checked::Fault(f)),
+        Filling::Filled(n) => {
+            replay::number(n.scans as u64);
+            replay::number(n.left as u64);
+            replay::number(replay::cells_with(labels, 6));
+            replay::number(replay::cells_with(labels, 7));
+            replay::text(b"\n");
+            show(labels);
+        }
+    }
+}
+
+// The map of `marks`, two cells of 3 by 3 by 3.
+fn two_cells(mode: Mode) {
+    let mut labels = [0u8; 27];
+    labels[0] = 8;
+    labels[1] = 8;
+    let r = Axes {
+        r0: 3,
+        r1: 3,
+        r2: 3,
+    };
+    fill_and_show(&mut labels, r, mode);
+}
+
+// 3 by 3 by 3, all but the centre marked.
+fn three(mode: Mode) {
+    let mut labels = [8u8; 27];
+    labels[13] = 0;
+    let r = Axes {
+        r0: 3,
+        r1: 3,
+        r2: 3,
+    };
+    fill_and_show(&mut labels, r, mode);
+}
+
+// Whether a place on an axis of 5 is neither first nor last.
+fn between(n: usize) -> bool {
+    (1 <= n) & (n <= 3)
+}
+
+fn marked_about_the_centre(n: usize) -> u8 {
+    let near = between(n % 5) & between(n / 5 % 5) & between(n / 25);
+    if near & (n != 62) { 8 } else { 0 }
+}
+
+// 5 by 5 by 5, the 26 cells about the centre marked.
+fn five(mode: Mode) {
+    let mut labels = [0u8; 125];
+    let mut n = 0usize;
+    while n < 125 {
+        labels[n] = marked_about_the_centre(n);
+        n += 1;
+    }
+    let r = Axes {
+        r0: 5,
+        r1: 5,
+        r2: 5,
+    };
+    fill_and_show(&mut labels, r, mode);
+}
+
 fn main() {
     by_size(30.0, 0.0, 0.0, 1.5);
     by_size(30.0, 0.0, 0.0, 15.0);
@@ -83,4 +151,9 @@ fn main() {
     replay::number(grid::number(r, c) as u64);
     replay::text(b"\n");
     marks();
+    two_cells(Mode::Flood);
+    three(Mode::Flood);
+    three(Mode::Cavities);
+    five(Mode::Flood);
+    five(Mode::Cavities);
 }

@@ -1,6 +1,4 @@
 -- `mark_vectors::one_case` stays in the input. Assumes nothing.
-use mathlib.Core.Bool.{Bool, true, false, _||_, true≢false}
-use mathlib.Core.Path.{_≡_, refl}
 use lib.Dec.{ltb}
 use borrow.Author.Tests.{ltb-false}
 use Rattle.grid.proofs.Checks.{or-false}

@@ -1,10 +1,10 @@
--- `fill_vectors::cells_with` stays in the slice and counts no more than it has. Assumes nothing.
+-- `replay::cells_with` stays in the slice and counts no more than it has. Assumes nothing.
 use borrow.Author.Needs.{needs}
 use native.Mathlib.Omega.{arith}
 use Prim.Native.Nat.{_-_, _≤_}
 use lib.ListN.{length}
-use Rattle.fill_vectors.proofs.cells_with.Statement.{statement}
-use Rattle.fill_vectors.proofs.cells_with.Tie as tie
+use Rattle.replay.proofs.cells_with.Statement.{statement}
+use Rattle.replay.proofs.cells_with.Tie as tie
 
 abbrev Inv-loop : tie.InvT-loop
 Inv-loop labels label n₀ i₀ n i = (i ≤ length labels) × (n ≤ i)

@@ -1,10 +1,10 @@
--- `fill_vectors::sum` stays in the slice. Assumes nothing.
+-- `replay::sum` stays in the slice. Assumes nothing.
 use borrow.Author.Needs.{needs}
 use native.Mathlib.Omega.{arith}
 use Prim.Native.Nat.{_-_, _≤_}
 use lib.ListN.{length}
-use Rattle.fill_vectors.proofs.sum.Statement.{statement}
-use Rattle.fill_vectors.proofs.sum.Tie as tie
+use Rattle.replay.proofs.sum.Statement.{statement}
+use Rattle.replay.proofs.sum.Tie as tie
 
 abbrev Inv-loop : tie.InvT-loop
 Inv-loop s labels t₀ i₀ t i = i ≤ length labels
