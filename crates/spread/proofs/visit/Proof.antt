@@ -20,13 +20,13 @@ slice-write-l : tie.Need-slice-write-l
 slice-write-l c = let a = c .before .before .before .before in omega (arith, num-lt (a .args .r) (a .args .c) (a .pre .1 .0 .0), a .pre .1 .0 .1, a .pre .0 .size)
 
 walks-requires : tie.Need-walks-requires
-walks-requires c κs = let a = c .before .before .before .before .before in (sheet-kept (a .args .r) (a .args .l .now) _ (length-set (a .args .l .now) (a .args .at) (a .args .p .done)) (a .pre .0), a .pre .1 .0)
+walks-requires c κs = let a = c .before .before .before .before .before in (sheet-kept (a .args .r) (a .args .l .now) _ (length-set (a .args .l .now) (a .args .at) _) (a .pre .0), a .pre .1 .0)
 
 add-result : tie.Need-add-result
 add-result c = omega (arith, c .before .before .before .before .before .before .before .before .pre .1 .1)
 
 same-length : tie.Need-same-length
-same-length c = c .before .before .walks .kept .0 ∙ length-set (c .before .before .before .before .before .before .before .before .args .l .now) (c .before .before .before .before .before .before .before .before .args .at) (c .before .before .before .before .before .before .before .before .args .p .done)
+same-length c = c .before .before .walks .kept .0 ∙ length-set (c .before .before .before .before .before .before .before .before .args .l .now) (c .before .before .before .before .before .before .before .before .args .at) _
 
 returns : tie.Need-returns
 returns c = let a = c .before .before .before .before .before .before .before .before .args in
