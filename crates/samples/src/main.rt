@@ -1,5 +1,6 @@
 // 01's samples, run one after the other: each line is held to the file `stdout`, which was written
 // from 01's text. Axes come before the bits of the origin, the scale and the reciprocal.
+ghost use Prim.Native.Nat.{_<_};
 use fill::Filling;
 use fill::Mode;
 use grid::Axes;
@@ -9,13 +10,25 @@ use grid::Placement;
 use marking::Marking;
 use numbers::Whole;
 
-fn show(labels: &[u8]) {
-    let mut i = 0usize;
-    while i < labels.len() {
-        replay::number(labels[i] as u64);
-        i += 1;
+// A line ends after every `layer` labels.
+fn end_layer(n: usize, layer: usize)
+    requires { ⌜ 0 < layer ⌝ }
+{
+    if n % layer == 0 {
+        replay::text(b"\n");
     }
-    replay::text(b"\n");
+}
+
+// The labels in the order of cell numbers, a layer of the grid to a line.
+fn show(labels: &[u8], layer: usize)
+    requires { ⌜ 0 < layer ⌝ }
+{
+    let mut n = 0usize;
+    while n < labels.len() {
+        replay::number(labels[n] as u64);
+        n += 1;
+        end_layer(n, layer);
+    }
 }
 
 // A grid over the origin and one corner.
@@ -42,8 +55,7 @@ fn rounding(t: f32) {
     replay::text(b"\n");
 }
 
-// The surface cells of three points and two triangles, each a single point: the labels in the order of
-// cell numbers.
+// The surface cells of three points and two triangles, each a single point.
 fn marks() {
     let points: [f32; 9] = [0.0, 0.0, 0.0, 2.0, 2.0, 2.0, 0.5, 0.0, 0.0];
     let triangles: [u32; 6] = [2, 2, 2, 0, 0, 0];
@@ -62,12 +74,14 @@ fn marks() {
     let mut labels = [7u8; 27];
     match marking::mark(&points, &triangles, r, at, &mut labels) {
         Marking::Refused(f) => replay::checked(Checked::Fault(f)),
-        Marking::Marked => show(&labels),
+        Marking::Marked => show(&labels, 9),
     }
 }
 
 // Fills a map and shows scans, cells left, how many cells are Outside and Inside, and the labels.
-fn fill_and_show(labels: &mut [u8], r: Axes, mode: Mode) {
+fn fill_and_show(labels: &mut [u8], r: Axes, mode: Mode, layer: usize)
+    requires { ⌜ 0 < layer ⌝ }
+{
     match fill::fill(labels, r, mode) {
         Filling::Refused(f) => replay::checked(Checked::Fault(f)),
         Filling::Filled(n) => {
@@ -76,7 +90,7 @@ fn fill_and_show(labels: &mut [u8], r: Axes, mode: Mode) {
             replay::number(replay::cells_with(labels, 6));
             replay::number(replay::cells_with(labels, 7));
             replay::text(b"\n");
-            show(labels);
+            show(labels, layer);
         }
     }
 }
@@ -91,7 +105,7 @@ fn two_cells(mode: Mode) {
         r1: 3,
         r2: 3,
     };
-    fill_and_show(&mut labels, r, mode);
+    fill_and_show(&mut labels, r, mode, 9);
 }
 
 // 3 by 3 by 3, all but the centre marked.
@@ -103,7 +117,7 @@ fn three(mode: Mode) {
         r1: 3,
         r2: 3,
     };
-    fill_and_show(&mut labels, r, mode);
+    fill_and_show(&mut labels, r, mode, 9);
 }
 
 // Whether a place on an axis of 5 is neither first nor last.
@@ -129,7 +143,7 @@ fn five(mode: Mode) {
         r1: 5,
         r2: 5,
     };
-    fill_and_show(&mut labels, r, mode);
+    fill_and_show(&mut labels, r, mode, 25);
 }
 
 fn main() {

@@ -34,7 +34,7 @@ slice-aggregate-fill-and-show : tie.Need-slice-aggregate-fill-and-show Inv-loop 
 slice-aggregate-fill-and-show c = omega (arith, c .before .before .loop .inv .1)
 
 fill-and-show-requires : tie.Need-fill-and-show-requires Inv-loop μ-loop
-fill-and-show-requires c κs = tt
+fill-and-show-requires c κs = omega arith
 
 returns : tie.Need-returns Inv-loop μ-loop
 returns c = tt

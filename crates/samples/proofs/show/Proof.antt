@@ -1,5 +1,4 @@
 -- `samples::show` stays in the slice. Assumes nothing.
-use borrow.Author.Needs.{needs}
 use native.Mathlib.Omega.{arith}
 use Prim.Native.Nat.{_-_, _≤_}
 use lib.ListN.{length}
@@ -7,25 +6,28 @@ use Rattle.samples.proofs.show.Statement.{statement}
 use Rattle.samples.proofs.show.Tie as tie
 
 abbrev Inv-loop : tie.InvT-loop
-Inv-loop labels i₀ t3 i = i ≤ length labels
+Inv-loop labels layer n₀ n = n ≤ length labels
 
 abbrev μ-loop : tie.MeasureT-loop
-μ-loop labels i₀ t3 i = length labels - i
+μ-loop labels layer n₀ n = length labels - n
 
 loop-holds : tie.Need-loop-holds Inv-loop μ-loop
 loop-holds c = omega arith
 
 shared-slice-read-number : tie.Need-shared-slice-read-number Inv-loop μ-loop
-shared-slice-read-number c = search needs
+shared-slice-read-number c = c .before .loop-test .taken
 
 cast-number : tie.Need-cast-number Inv-loop μ-loop
-cast-number c = omega (arith, c .shared-slice-known2 .given (c .before .before .loop .i))
+cast-number c = omega (arith, c .shared-slice-known2 .given (c .before .before .loop .n))
 
 number-requires : tie.Need-number-requires Inv-loop μ-loop
-number-requires c κs = search needs
+number-requires c κs = tt
 
-add-i : tie.Need-add-i Inv-loop μ-loop
-add-i c = search needs
+add-n : tie.Need-add-n Inv-loop μ-loop
+add-n c = omega (arith, c .before .before .loop-test .taken, c .before .before .before .before .before .good .0)
+
+end-layer-requires : tie.Need-end-layer-requires Inv-loop μ-loop
+end-layer-requires c κs = c .before .before .before .before .before .pre
 
 loop-less : tie.Need-loop-less Inv-loop μ-loop
 loop-less c = omega arith
@@ -33,14 +35,8 @@ loop-less c = omega arith
 loop-again : tie.Need-loop-again Inv-loop μ-loop
 loop-again c = omega arith
 
-slice-aggregate-text : tie.Need-slice-aggregate-text Inv-loop μ-loop
-slice-aggregate-text c = search needs
-
-text-requires : tie.Need-text-requires Inv-loop μ-loop
-text-requires c κs = search needs
-
 returns : tie.Need-returns Inv-loop μ-loop
-returns c = search needs
+returns c = tt
 
 pub show-spec : {M : Type 1} → statement M
 show-spec =
@@ -52,9 +48,8 @@ show-spec =
     shared-slice-read-number
     cast-number
     number-requires
-    add-i
+    add-n
+    end-layer-requires
     loop-less
     loop-again
-    slice-aggregate-text
-    text-requires
     returns)
