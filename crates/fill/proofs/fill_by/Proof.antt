@@ -2,7 +2,7 @@
 use borrow.Author.Needs.{needs}
 use mathlib.Core.Path.{sym, subst}
 use Rattle.fill.specs.declared.Mode.{Mode}
-use Rattle.fill.specs.Modes.{Fills, Means}
+use Rattle.fill.specs.Modes.{Fills}
 use Rattle.fill.proofs.fill_by.Statement.{statement}
 use Rattle.fill.proofs.fill_by.Tie as tie
 
@@ -28,28 +28,31 @@ same-length : tie.Need-same-length
 same-length c = c .before .before .keep-surface .kept .0
 
 returns : tie.Need-returns
-returns c = let a = c .before .before .before .before .before .before .before .args in
+returns c =
+    let a = c .before .before .before .before .before .before .before .args in
     let e = sym (c .before .before .before .before .enum-told .given .1) in
     let d = c .before .before .keep-surface in
-    (subst (λ (m : Mode). Fills m (a .r) (a .labels .now) (d .result) (d .last .0)) e (d .ensures .0), subst (λ (m : Mode). Means m (a .r) (a .labels .now) (d .result) (d .last .0)) e (d .ensures .1))
+    subst (λ (m : Mode). Fills m (a .r) (a .labels .now) (d .result) (d .last .0)) e (d .ensures)
 
 same-length-2 : tie.Need-same-length-2
 same-length-2 c = c .before .before .fill-flood .kept .0
 
 returns-2 : tie.Need-returns-2
-returns-2 c = let a = c .before .before .before .before .before .before .before .args in
+returns-2 c =
+    let a = c .before .before .before .before .before .before .before .args in
     let e = sym (c .before .before .before .before .enum-told2 .given .1) in
     let d = c .before .before .fill-flood in
-    (subst (λ (m : Mode). Fills m (a .r) (a .labels .now) (d .result) (d .last .0)) e (d .ensures .0), subst (λ (m : Mode). Means m (a .r) (a .labels .now) (d .result) (d .last .0)) e (d .ensures .1))
+    subst (λ (m : Mode). Fills m (a .r) (a .labels .now) (d .result) (d .last .0)) e (d .ensures)
 
 same-length-3 : tie.Need-same-length-3
 same-length-3 c = c .before .before .fill-cavities .kept .0
 
 returns-3 : tie.Need-returns-3
-returns-3 c = let a = c .before .before .before .before .before .before .before .args in
+returns-3 c =
+    let a = c .before .before .before .before .before .before .before .args in
     let e = sym (c .before .before .before .before .enum-told3 .given .1) in
     let d = c .before .before .fill-cavities in
-    (subst (λ (m : Mode). Fills m (a .r) (a .labels .now) (d .result) (d .last .0)) e (d .ensures .0), subst (λ (m : Mode). Means m (a .r) (a .labels .now) (d .result) (d .last .0)) e (d .ensures .1))
+    subst (λ (m : Mode). Fills m (a .r) (a .labels .now) (d .result) (d .last .0)) e (d .ensures)
 
 pub fill-by-spec : {M : Type 1} → statement M
 fill-by-spec =

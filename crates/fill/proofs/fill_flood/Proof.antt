@@ -1,6 +1,6 @@
--- `fill::fill_flood` meets its contract: one phase and what it means (`flooded`). Assumes nothing.
+-- `fill::fill_flood` meets its contract: one phase, after which none is left (`flood-left`). Assumes nothing.
 use borrow.Author.Needs.{needs}
-use mathlib.Core.Path.{refl, sym, subst, _∙_}
+use mathlib.Core.Path.{sym, subst, _∙_}
 use mathlib.Core.List.{List}
 use Prim.Native.Nat.{ℕ}
 use native.Mathlib.Omega.{arith}
@@ -10,7 +10,7 @@ use Rattle.spread.proofs.Turns.{sheet-kept}
 use Rattle.fill.specs.Phases.{becomes, seeded, FloodRun}
 use Rattle.fill.proofs.Passes.{within-map}
 use Rattle.fill.proofs.Swings.{outward-proper}
-use Rattle.fill.proofs.Meaning.{flooded, flood-left, flood-few}
+use Rattle.fill.proofs.Meaning.{flood-left}
 use Rattle.fill.proofs.fill_flood.Statement.{statement}
 use Rattle.fill.proofs.fill_flood.Tie as tie
 
@@ -30,7 +30,8 @@ same-length : tie.Need-same-length
 same-length c = c .before .before .replace .kept .0 ∙ c .before .before .before .before .before .before .run .kept .0 ∙ c .before .before .before .before .before .before .before .before .before .before .before .seed .kept .0
 
 returns : tie.Need-returns
-returns c = let a = c .before .before .before .before .before .before .before .before .before .before .before .before .before .before in
+returns c =
+    let a = c .before .before .before .before .before .before .before .before .before .before .before .before .before .before in
     let l = a .args .labels .now in
     let f = c .before .before .replace .last .0 in
     let n = c .before .before .before .before .before .before .run .result in
@@ -40,10 +41,7 @@ returns c = let a = c .before .before .before .before .before .before .before .b
       phase = subst (λ (p : Phase). Run p (a .args .r) (seeded (a .args .r) l) ended n) (c .before .before .before .before .before .before .before .before .outward-with .ensures) (subst (λ (s : List ℕ). Run (c .before .before .before .before .before .before .before .before .outward-with .result) (a .args .r) s ended n) (c .before .before .before .before .before .before .before .before .before .before .before .seed .ensures) (c .before .before .before .before .before .before .run .ensures));
       labels = within-map (becomes 0 0 7) _ ended f (omega (arith, c .before .before .before .before .before .before .run .kept .0, c .before .before .before .before .before .before .before .before .before .before .before .seed .kept .0)) (c .before .before .replace .ensures);
     } in
-    let none = flood-left (a .args .r) l (a .pre .0 .size) (a .pre .1) f n ran in (
-      record { scanned = ran; counted = sym none },
-      (flooded (a .args .r) l (a .pre .0 .size) (a .pre .1) f n ran, refl, flood-few (a .args .r) l (a .pre .0 .size) (a .pre .1) f n ran),
-    )
+    record { scanned = ran; counted = sym (flood-left (a .args .r) l (a .pre .0 .size) (a .pre .1) f n ran) }
 
 pub fill-flood-spec : {M : Type 1} → statement M
 fill-flood-spec =

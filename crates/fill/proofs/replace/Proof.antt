@@ -33,7 +33,8 @@ loop-less : tie.Need-loop-less Inv-loop μ-loop
 loop-less c = omega (arith, c .before .before .loop-test .taken)
 
 loop-again : tie.Need-loop-again Inv-loop μ-loop
-loop-again c = let v = c .before .before .before .loop .inv in
+loop-again c =
+    let v = c .before .before .before .loop .inv in
     (within-more _ _ _ _ _ _ (v .0) (v .1) (omega (arith, c .before .before .loop-test .taken, v .0 .size, c .before .before .before .before .before .pre .1)) (c .turned .ensures), omega (arith, v .1), omega (arith, c .before .before .loop-test .taken))
 
 same-length : tie.Need-same-length Inv-loop μ-loop

@@ -31,7 +31,8 @@ seed-layer-requires : tie.Need-seed-layer-requires Inv-loop μ-loop
 seed-layer-requires c κs = (sheet-kept _ _ _ (c .before .before .loop .inv .0 .size) (c .before .before .before .before .before .pre), (c .before .loop-test .taken, c .before .before .loop .inv .1))
 
 add-at : tie.Need-add-at Inv-loop μ-loop
-add-at c = let s = c .before .before .before .before .before .before .before .before .pre .sound in
+add-at c =
+    let s = c .before .before .before .before .before .before .before .before .pre .sound in
     let m = layers (c .before .before .before .before .before .before .before .before .args .r) (c .before .before .before .before .before .loop .k) (s .axis0 .most) (s .axis1 .most) (omega (arith, c .before .before .before .before .before .loop .inv .2, s .axis2 .most)) in
     omega (arith, m .0, m .1, c .before .before .before .before .before .loop .inv .1)
 
@@ -42,7 +43,8 @@ loop-less : tie.Need-loop-less Inv-loop μ-loop
 loop-less c = omega (arith, c .before .before .before .before .loop-test .taken)
 
 loop-again : tie.Need-loop-again Inv-loop μ-loop
-loop-again c = let a = c .before .before .before .before .before .before .before .before .args in
+loop-again c =
+    let a = c .before .before .before .before .before .before .before .before .args in
     let v = c .before .before .before .before .before .loop in
     let layer = a .r .r0 * a .r .r1 in (
       within-then (seedAt (a .r)) _ _ _ _ _ _ (omega arith) (omega arith) (v .inv .0) (c .before .before .seed-layer .ensures),
@@ -54,7 +56,8 @@ same-length : tie.Need-same-length Inv-loop μ-loop
 same-length c = c .before .loop .inv .0 .size
 
 returns : tie.Need-returns Inv-loop μ-loop
-returns c = let a = c .before .before .before .before .args in
+returns c =
+    let a = c .before .before .before .before .args in
     let v = c .before .loop in
     let k : v .k ≡ a .r .r2 = omega (arith, v .inv .2, c .loop-test .left) in
     let e : v .at ≡ cells (a .r) = v .inv .1 ∙ ap (λ (x : ℕ). x * (a .r .r0 * a .r .r1)) k ∙ mul-comm (a .r .r2) (a .r .r0 * a .r .r1) in

@@ -31,7 +31,8 @@ seed-row-requires : tie.Need-seed-row-requires Inv-loop μ-loop
 seed-row-requires c κs = (sheet-kept _ _ _ (c .before .before .loop .inv .0 .size) (c .before .before .before .before .pre .0), (row-in (c .before), row-num (c .before)))
 
 add-at : tie.Need-add-at Inv-loop μ-loop
-add-at c = let a = c .before .before .before .before .before .before .before .args in
+add-at c =
+    let a = c .before .before .before .before .before .before .before .args in
     let f = row-fits (a .r) (c .before .before .before .before .before .loop .j) (a .k) (c .before .before .before .before .before .loop .at) (row-in (c .before .before .before .before)) (row-num (c .before .before .before .before)) in
     omega (arith, f, cells-max (a .r) (c .before .before .before .before .before .before .before .pre .0 .sound))
 
@@ -42,7 +43,8 @@ loop-less : tie.Need-loop-less Inv-loop μ-loop
 loop-less c = omega (arith, c .before .before .before .before .loop-test .taken)
 
 loop-again : tie.Need-loop-again Inv-loop μ-loop
-loop-again c = let a = c .before .before .before .before .before .before .before .args in
+loop-again c =
+    let a = c .before .before .before .before .before .before .before .args in
     let v = c .before .before .before .before .before .loop in (
       within-then (seedAt (a .r)) _ _ _ _ _ _ (omega (arith, v .inv .1)) (omega arith) (v .inv .0) (c .before .before .seed-row .ensures),
       omega (arith, v .inv .1, add-mul (v .j) 1 (a .r .r0), one-mul (a .r .r0)),
@@ -53,7 +55,8 @@ same-length : tie.Need-same-length Inv-loop μ-loop
 same-length c = c .before .loop .inv .0 .size
 
 returns : tie.Need-returns Inv-loop μ-loop
-returns c = let a = c .before .before .before .args in
+returns c =
+    let a = c .before .before .before .args in
     let v = c .before .loop in
     let j : v .j ≡ a .r .r1 = omega (arith, v .inv .2, c .loop-test .left) in
     let e : v .at ≡ a .first + a .r .r0 * a .r .r1 = v .inv .1 ∙ ap (λ (x : ℕ). a .first + x * a .r .r0) j ∙ ap (λ (x : ℕ). a .first + x) (mul-comm (a .r .r1) (a .r .r0)) in

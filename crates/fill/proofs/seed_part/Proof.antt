@@ -17,12 +17,14 @@ same-length : tie.Need-same-length
 same-length c = c .before .before .replace .kept .0
 
 returns : tie.Need-returns
-returns c = let a = c .before .before .before .before .before .before .before in
+returns c =
+    let a = c .before .before .before .before .before .before .before in
     let yes-border = sym (c .before .before .before .before .before .on-border .ensures) ∙ c .before .before .before .before .if1 .taken in
     within-as (seedAt (a .args .r)) _ _ _ _ _ (c .before .before .replace .ensures) (λ n v p q. sym (ap (λ (b : Bool). cond b (becomes 0 0 1 v) v) (a .pre .1 .1 n p q ∙ yes-border)))
 
 returns-2 : tie.Need-returns-2
-returns-2 c = let a = c .before .before .before in
+returns-2 c =
+    let a = c .before .before .before in
     let no-border = sym (c .before .on-border .ensures) ∙ c .if1 .left in
     within-idle (seedAt (a .args .r)) _ _ _ (λ n v p q. ap (λ (b : Bool). cond b (becomes 0 0 1 v) v) (a .pre .1 .1 n p q ∙ no-border))
 

@@ -12,7 +12,8 @@ add-seed-part : tie.Need-add-seed-part
 add-seed-part c = let a = c .before .before in omega (arith, row-fits (a .args .r) (a .args .j) (a .args .k) (a .args .first) (a .pre .1 .0) (a .pre .1 .1), cells-max (a .args .r) (a .pre .0 .sound), a .pre .1 .0 .i-in)
 
 seed-part-requires : tie.Need-seed-part-requires
-seed-part-requires c κs = let a = c .before .before in
+seed-part-requires c κs =
+    let a = c .before .before in
     let f = row-fits (a .args .r) (a .args .j) (a .args .k) (a .args .first) (a .pre .1 .0) (a .pre .1 .1) in
     ((omega arith, omega (arith, f, a .pre .0 .size, a .pre .1 .0 .i-in)), (a .pre .1 .0, one-alike (a .args .r) (a .args .j) (a .args .k) (a .args .first) (a .pre .1 .0) (a .pre .1 .1) 0 (a .args .first) (a .pre .1 .0 .i-in) (omega arith)))
 
@@ -20,7 +21,8 @@ same-length : tie.Need-same-length
 same-length c = c .before .before .before .seed-part .kept .0
 
 returns : tie.Need-returns
-returns c = let a = c .before .before .before .before .before .before in
+returns c =
+    let a = c .before .before .before .before .before .before in
     let e : a .args .first + 1 ≡ a .args .first + a .args .r .r0 = omega (arith, c .if1 .taken) in
     subst (λ (n : ℕ). Within (a .args .first) n (seedAt (a .args .r)) (a .args .labels .now) (c .before .before .before .seed-part .last .0)) e (c .before .before .before .seed-part .ensures)
 
@@ -34,7 +36,8 @@ add-seed-part-2 : tie.Need-add-seed-part-2
 add-seed-part-2 c = let a = c .before .before .before .before .before .before .before in omega (arith, row-fits (a .args .r) (a .args .j) (a .args .k) (a .args .first) (a .pre .1 .0) (a .pre .1 .1), cells-max (a .args .r) (a .pre .0 .sound), a .pre .1 .0 .i-in)
 
 seed-part-requires-2 : tie.Need-seed-part-requires-2
-seed-part-requires-2 c κs = let a = c .before .before .before .before .before .before .before in
+seed-part-requires-2 c κs =
+    let a = c .before .before .before .before .before .before .before in
     let f = row-fits (a .args .r) (a .args .j) (a .args .k) (a .args .first) (a .pre .1 .0) (a .pre .1 .1) in
     let i = a .pre .1 .0 .i-in in (
       (omega (arith, i, c .before .if1 .left), omega (arith, f, c .before .before .before .before .seed-part .kept .0, a .pre .0 .size)),
@@ -48,7 +51,8 @@ add-seed-part-3 : tie.Need-add-seed-part-3
 add-seed-part-3 c = let a = c .before .before .before .before .before .before .before .before .before .before .before in omega (arith, row-fits (a .args .r) (a .args .j) (a .args .k) (a .args .first) (a .pre .1 .0) (a .pre .1 .1), cells-max (a .args .r) (a .pre .0 .sound), a .pre .1 .0 .i-in)
 
 seed-part-requires-3 : tie.Need-seed-part-requires-3
-seed-part-requires-3 c κs = let a = c .before .before .before .before .before .before .before .before .before .before .before in
+seed-part-requires-3 c κs =
+    let a = c .before .before .before .before .before .before .before .before .before .before .before in
     let f = row-fits (a .args .r) (a .args .j) (a .args .k) (a .args .first) (a .pre .1 .0) (a .pre .1 .1) in
     let i = a .pre .1 .0 .i-in in (
       (omega arith, omega (arith, i, f, c .before .before .before .seed-part2 .kept .0, c .before .before .before .before .before .before .before .before .seed-part .kept .0, a .pre .0 .size)),
@@ -59,7 +63,8 @@ same-length-2 : tie.Need-same-length-2
 same-length-2 c = c .before .before .seed-part3 .kept .0 ∙ c .before .before .before .before .before .before .seed-part2 .kept .0 ∙ c .before .before .before .before .before .before .before .before .before .before .before .seed-part .kept .0
 
 returns-2 : tie.Need-returns-2
-returns-2 c = let a = c .before .before .before .before .before .before .before .before .before .before .before .before .before .before in
+returns-2 c =
+    let a = c .before .before .before .before .before .before .before .before .before .before .before .before .before .before in
     let i = a .pre .1 .0 .i-in in
     let e : a .args .first + a .args .r .r0 - 1 + 1 ≡ a .args .first + a .args .r .r0 = omega (arith, i) in
     let rule = seedAt (a .args .r) in

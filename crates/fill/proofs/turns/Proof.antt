@@ -21,7 +21,8 @@ turn-requires : tie.Need-turn-requires Inv-loop μ-loop
 turn-requires c κs = c .before .loop .inv .sheet
 
 add-scans : tie.Need-add-scans Inv-loop μ-loop
-add-scans c = let a = c .before .before .before .before .before .before in
+add-scans c =
+    let a = c .before .before .before .before .before .before in
     omega (arith, c .before .before .before .before .loop .inv .left, swing-falls _ _ _ _ _ _ _ (c .before .before .before .before .loop .inv) (c .before .before .turn .ensures), count-most under3 (a .args .labels .now), a .good .0)
 
 same-length : tie.Need-same-length Inv-loop μ-loop

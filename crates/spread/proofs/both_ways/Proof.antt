@@ -23,7 +23,8 @@ at-most-64-requires-2 : tie.Need-at-most-64-requires-2
 at-most-64-requires-2 c κs = search needs
 
 walk-requires-2 : tie.Need-walk-requires-2
-walk-requires-2 c κs = let a = c .before .before .before .before .before .before .before .before in
+walk-requires-2 c κs =
+    let a = c .before .before .before .before .before .before .before .before in
     let pre : Span (a .args .from) (a .args .stride) (a .args .a) (a .args .n) (length (c .before .before .before .before .walk .last .0)) = rw (c .before .before .before .before .walk .kept .0) (a .pre) in
     ((span-here _ _ _ _ _ pre, omega arith), span-down _ _ _ _ _ pre _ (omega (arith, c .at-most-642 .ensures)))
 

@@ -34,12 +34,14 @@ loop-holds : tie.Need-loop-holds Inv-loop μ-loop
 loop-holds c = (turns-none _ _ _ _ _ _ (c .before .before .before .pre .0), omega (arith, zero-mul (c .before .before .before .args .r .r0 * c .before .before .before .args .r .r1)))
 
 visit-requires : tie.Need-visit-requires Inv-loop μ-loop
-visit-requires c κs = let a = c .before .before .before .before .before .before in
+visit-requires c κs =
+    let a = c .before .before .before .before .before .before in
     let t = c .before .before .loop .inv .0 in
     (t .sheet, ((record { i-in = a .pre .1 .0 .0; j-in = a .pre .1 .0 .1; k-in = c .before .loop-test .taken }, c .before .before .loop .inv .1), omega (arith, t .few, t .at-most, t .sheet .sound .axis2 .most, a .pre .1 .1)))
 
 add-at-2 : tie.Need-add-at-2 Inv-loop μ-loop
-add-at-2 c = let a = c .before .before .before .before .before .before .before .before .before in
+add-at-2 c =
+    let a = c .before .before .before .before .before .before .before .before .before in
     let t = c .before .before .before .before .before .loop .inv .0 in
     let m = terms (a .args .r) (record { i = a .args .i; j = a .args .j; k = c .before .before .before .before .before .loop .k }) (t .sheet .sound) (record { i-in = a .pre .1 .0 .0; j-in = a .pre .1 .0 .1; k-in = c .before .before .before .before .loop-test .taken }) in
     omega (arith, c .before .before .before .before .before .loop .inv .1, m .r01, m .jr0, m .kr01, t .sheet .sound .axis0 .most, a .pre .1 .0 .0)
@@ -51,7 +53,8 @@ loop-less : tie.Need-loop-less Inv-loop μ-loop
 loop-less c = omega (arith, c .before .before .before .before .loop-test .taken)
 
 loop-again : tie.Need-loop-again Inv-loop μ-loop
-loop-again c = let a = c .before .before .before .before .before .before .before .before .before .args in
+loop-again c =
+    let a = c .before .before .before .before .before .before .before .before .before .args in
     let k = c .before .before .before .before .before .loop .k in (
       turns-more _ _ _ _ _ _ _ _ _ _ _ (c .before .before .before .before .before .loop .inv .0) (c .before .before .before .before .loop-test .taken) (c .before .before .visit .kept .0) (c .before .before .visit .ensures .1) (c .before .before .visit .ensures .0),
       omega (arith, c .before .before .before .before .before .loop .inv .1, add-mul k 1 (a .r .r0 * a .r .r1), one-mul (a .r .r0 * a .r .r1)),
@@ -61,7 +64,8 @@ same-length : tie.Need-same-length Inv-loop μ-loop
 same-length c = c .before .loop .inv .0 .same
 
 returns : tie.Need-returns Inv-loop μ-loop
-returns c = let t = c .before .loop .inv .0 in
+returns c =
+    let t = c .before .loop .inv .0 in
     (turns-all _ _ _ _ _ _ _ _ _ t (c .loop-test .left), omega (arith, t .few, t .at-most, t .sheet .sound .axis2 .most))
 
 pub row-spec : {M : Type 1} → statement M

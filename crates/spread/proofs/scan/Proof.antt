@@ -16,7 +16,8 @@ loop-holds : tie.Need-loop-holds Inv-loop μ-loop
 loop-holds c = turns-none _ _ _ _ _ _ (c .before .pre)
 
 slab-requires : tie.Need-slab-requires Inv-loop μ-loop
-slab-requires c κs = let t = c .before .before .loop .inv in
+slab-requires c κs =
+    let t = c .before .before .loop .inv in
     (t .sheet, (c .before .loop-test .taken, omega (arith, t .few, t .at-most, t .sheet .sound .axis0 .most, c .before .loop-test .taken)))
 
 add-i : tie.Need-add-i Inv-loop μ-loop

@@ -16,7 +16,8 @@ loop-holds : tie.Need-loop-holds Inv-loop μ-loop
 loop-holds c = turns-none _ _ _ _ _ _ (c .before .pre .0)
 
 row-requires : tie.Need-row-requires Inv-loop μ-loop
-row-requires c κs = let a = c .before .before .before .before in
+row-requires c κs =
+    let a = c .before .before .before .before in
     let t = c .before .before .loop .inv in
     (t .sheet, ((a .pre .1 .0, c .before .loop-test .taken), omega (arith, t .few, t .at-most, t .sheet .sound .axis1 .most, c .before .loop-test .taken, a .pre .1 .1)))
 
@@ -33,7 +34,8 @@ same-length : tie.Need-same-length Inv-loop μ-loop
 same-length c = c .before .loop .inv .same
 
 returns : tie.Need-returns Inv-loop μ-loop
-returns c = let t = c .before .loop .inv in
+returns c =
+    let t = c .before .loop .inv in
     (turns-all _ _ _ _ _ _ _ _ _ t (c .loop-test .left), omega (arith, t .few, t .at-most, t .sheet .sound .axis1 .most))
 
 pub slab-spec : {M : Type 1} → statement M

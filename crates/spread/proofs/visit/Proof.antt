@@ -29,7 +29,8 @@ same-length : tie.Need-same-length
 same-length c = c .before .before .walks .kept .0 ∙ length-set (c .before .before .before .before .before .before .before .before .args .l .now) (c .before .before .before .before .before .before .before .before .args .at) _
 
 returns : tie.Need-returns
-returns c = let a = c .before .before .before .before .before .before .before .before .args in
+returns c =
+    let a = c .before .before .before .before .before .before .before .before .args in
     let n = c .before .before .before .before .before .before .before .before .pre .1 .0 .1 in
     let found : at (a .r) (a .l .now) (a .c) ≡ a .p .todo = subst (λ (q : ℕ). getD (a .l .now) q 0 ≡ a .p .todo) n (c .before .before .before .before .if1 .taken) in (
       ap (λ (l : List ℕ). record { labels = l; walked = a .walked + 1 }) (c .before .before .walks .ensures ∙ ap (λ (q : ℕ). walkedFrom (a .p) (a .r) (a .c) (set (a .l .now) q (a .p .done))) n)
@@ -47,7 +48,8 @@ same-length-2 : tie.Need-same-length-2
 same-length-2 c = c .before .before .walks2 .kept .0
 
 returns-2 : tie.Need-returns-2
-returns-2 c = let a = c .before .before .before .before .before .before .before .before .before .before .args in
+returns-2 c =
+    let a = c .before .before .before .before .before .before .before .before .before .before .args in
     let n = c .before .before .before .before .before .before .before .before .before .before .pre .1 .0 .1 in
     let other : at (a .r) (a .l .now) (a .c) ≡ a .p .todo → ⊥ = subst (λ (q : ℕ). getD (a .l .now) q 0 ≡ a .p .todo → ⊥) n (c .before .before .before .before .before .before .if1 .left) in
     let walker : isWalker (a .p .walkers) (at (a .r) (a .l .now) (a .c)) ≡ true = subst (λ (q : ℕ). isWalker (a .p .walkers) (getD (a .l .now) q 0) ≡ true) n (sym (c .before .before .before .before .before .is-walker .ensures) ∙ c .before .before .before .before .if2 .taken) in (
@@ -57,7 +59,8 @@ returns-2 c = let a = c .before .before .before .before .before .before .before 
     )
 
 returns-3 : tie.Need-returns-3
-returns-3 c = let a = c .before .before .before .before .before .before .args in
+returns-3 c =
+    let a = c .before .before .before .before .before .before .args in
     let n = c .before .before .before .before .before .before .pre .1 .0 .1 in
     let other : at (a .r) (a .l .now) (a .c) ≡ a .p .todo → ⊥ = subst (λ (q : ℕ). getD (a .l .now) q 0 ≡ a .p .todo → ⊥) n (c .before .before .if1 .left) in
     let none : isWalker (a .p .walkers) (at (a .r) (a .l .now) (a .c)) ≡ false = subst (λ (q : ℕ). isWalker (a .p .walkers) (getD (a .l .now) q 0) ≡ false) n (sym (c .before .is-walker .ensures) ∙ c .if2 .left) in
