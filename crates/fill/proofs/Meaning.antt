@@ -17,7 +17,7 @@ use Rattle.grid.specs.Counts.{countOf}
 use Rattle.grid.specs.Flood.{Aired, Floods, surface, outside, inside, Flooded}
 use Rattle.grid.specs.Grid.{InGrid, num, cells, cellNumbered, at, Border, onBorder}
 use Rattle.grid.specs.Paths.{starts, steps}
-use Rattle.grid.proofs.Cells.{num-lt, number-of-cell, cell-in, labels-length, labels-at, border-test}
+use Rattle.grid.proofs.Cells.{not-both, num-lt, number-of-cell, cell-in, labels-length, labels-at, border-test}
 use Rattle.grid.proofs.Checks.{first-fine}
 use Rattle.grid.proofs.Counts.{count-most, count-others, count-map, count-alike, count-none}
 use Rattle.spread.specs.Spread.{Plain, Reached, Spread}
@@ -58,9 +58,6 @@ map-marks f g l m p q =
     let b : n < length l = omega (arith, length-map l f) in
     map-at f l n b ∙ ⊎-elim (λ e. ap f e ∙ p ∙ sym (ap g e)) (λ e. ap f e ∙ q ∙ sym (ap g e)) (m n b) ∙ sym (map-at g l n b))
 
-two : (n a b : ℕ) → (a ≡ b → ⊥) → n ≡ a → n ≡ b → ⊥
-two n a b z p q = z (sym p ∙ q)
-
 -- no label is left where each is another number than 0
 pub none-left : (r : Axes) (l : List ℕ) → length l ≡ cells r → ((c : Cell) → InGrid r c → at r l c ≡ 0 → ⊥) → left l ≡ 0
 none-left r l e h =
@@ -86,7 +83,7 @@ module _ (r : Axes) (l : List ℕ) (size : length l ≡ cells r) (m : Marks l) w
   pub surface-only-left : left (map surfaceOnly l) ≡ 0
   surface-only-left =
       none-left r (map surfaceOnly l) (length-map l surfaceOnly ∙ size) (λ c h e.
-      ⊎-elim (λ q. two _ 6 0 (omega arith) (after-map surfaceOnly c h ∙ ap surfaceOnly q) e) (λ q. two _ 8 0 (omega arith) (after-map surfaceOnly c h ∙ ap surfaceOnly q) e) (kind c h))
+      ⊎-elim (λ q. not-both _ 6 0 (omega arith) (after-map surfaceOnly c h ∙ ap surfaceOnly q) e) (λ q. not-both _ 8 0 (omega arith) (after-map surfaceOnly c h ∙ ap surfaceOnly q) e) (kind c h))
 
   -- ---- the seeding, cell by cell
 
@@ -133,15 +130,15 @@ module _ (r : Axes) (l : List ℕ) (size : length l ≡ cells r) (m : Marks l) w
   reached-aired (starts {c = c} h b) = go (start c h)
     where
       go : Start c → Aired r l c
-      go (seed p q e) = starts h (p, two _ 0 8 (omega arith) q)
-      go (wall q e) = absurd (two _ 8 1 (omega arith) e b)
-      go (inner p q e) = absurd (two _ 0 1 (omega arith) e b)
+      go (seed p q e) = starts h (p, not-both _ 0 8 (omega arith) q)
+      go (wall q e) = absurd (not-both _ 8 1 (omega arith) e b)
+      go (inner p q e) = absurd (not-both _ 0 1 (omega arith) e b)
   reached-aired (steps {c = a} {d = d} u f h b) = go (reached-aired u) (start d h)
     where
       go : Aired r l a → Start d → Aired r l d
-      go v (seed p q e) = absurd (two _ 1 0 (omega arith) e b)
-      go v (wall q e) = absurd (two _ 8 0 (omega arith) e b)
-      go v (inner p q e) = steps v f h (two _ 0 8 (omega arith) q)
+      go v (seed p q e) = absurd (not-both _ 1 0 (omega arith) e b)
+      go v (wall q e) = absurd (not-both _ 8 0 (omega arith) e b)
+      go v (inner p q e) = steps v f h (not-both _ 0 8 (omega arith) q)
 
   module _ (f : List ℕ) (n : ℕ) (run : FloodRun r l f n) where
     abbrev e : List ℕ
@@ -165,7 +162,7 @@ module _ (r : Axes) (l : List ℕ) (size : length l ≡ cells r) (m : Marks l) w
         rest : (Reached (outward 8) r s c → ⊥) → at r e c ≡ at r s c → Start c → Floods r l c (at r f c)
         rest z q (seed p k x) = absurd (z (starts h x))
         rest z q (wall k x) = surface k (filled-at c h 8 (q ∙ x))
-        rest z q (inner p k x) = inside (two _ 0 8 (omega arith) k) (λ a. z (aired-reached a)) (filled-at c h 0 (q ∙ x))
+        rest z q (inner p k x) = inside (not-both _ 0 8 (omega arith) k) (λ a. z (aired-reached a)) (filled-at c h 0 (q ∙ x))
 
     pub flooded : Flooded r l f
     flooded = record { size = ap length (run .labels) ∙ length-map e (becomes 0 0 7) ∙ ended-size ∙ sym size; each = floods }
@@ -174,9 +171,9 @@ module _ (r : Axes) (l : List ℕ) (size : length l ≡ cells r) (m : Marks l) w
     flood-left = none-left r f (flooded .size ∙ size) (λ c h q. other (floods c h) q)
       where
         other : {c : Cell} → Floods r l c (at r f c) → at r f c ≡ 0 → ⊥
-        other (surface p k) q = two _ 8 0 (omega arith) k q
-        other (outside p k) q = two _ 6 0 (omega arith) k q
-        other (inside p z k) q = two _ 7 0 (omega arith) k q
+        other (surface p k) q = not-both _ 8 0 (omega arith) k q
+        other (outside p k) q = not-both _ 6 0 (omega arith) k q
+        other (inside p z k) q = not-both _ 7 0 (omega arith) k q
 
     -- scans are at most the Outside cells plus 1: each scan but the last makes one cell Outside
     not-6 : ℕ → Bool
@@ -225,9 +222,9 @@ module _ (r : Axes) (l : List ℕ) (size : length l ≡ cells r) (m : Marks l) w
       back false e = eqb-true v 8 e
 
   start-walls : (c : Cell) → Start c → (walls (at r s c) ≡ true) ↔ (at r l c ≡ 8)
-  start-walls c (seed p q e) = ((λ w. absurd (true≢false (sym w ∙ ap walls e))), λ k. absurd (two _ 0 8 (omega arith) q k))
+  start-walls c (seed p q e) = ((λ w. absurd (true≢false (sym w ∙ ap walls e))), λ k. absurd (not-both _ 0 8 (omega arith) q k))
   start-walls c (wall q e) = ((λ w. q), λ k. ap walls e)
-  start-walls c (inner p q e) = ((λ w. absurd (true≢false (sym w ∙ ap walls e))), λ k. absurd (two _ 0 8 (omega arith) q k))
+  start-walls c (inner p q e) = ((λ w. absurd (true≢false (sym w ∙ ap walls e))), λ k. absurd (not-both _ 0 8 (omega arith) q k))
 
   module _ (f : List ℕ) (n : ℕ) (run : CavityRun r l f n) where
     kept : map walls (run .ended) ≡ map walls s

@@ -1,5 +1,5 @@
 -- Laws of specs/Passes.antt: a pass place after place, one pass after another, what a whole pass leaves, and a loop that counts. Assumes nothing.
-use mathlib.Core.Bool.{Bool, true, false, cond}
+use mathlib.Core.Bool.{Bool, false, cond}
 use mathlib.Core.Logic.{_⊎_, inl, inr, ⊎-elim}
 use mathlib.Core.Path.{_≡_, refl, sym, ap, subst, _∙_}
 use mathlib.Core.List.{List, [], _∷_, map}
@@ -15,6 +15,7 @@ use Rattle.grid.specs.declared.Cell.{Cell}
 use Rattle.grid.specs.Counts.{count}
 use Rattle.grid.specs.Grid.{InGrid, num, cells, at, cellNumbered, onBorder}
 use Rattle.grid.proofs.Cells.{dec-eq, num-lt, cell-of-number, labels-one}
+use Rattle.grid.proofs.Counts.{one-most}
 use Rattle.grid.proofs.First.{le-or-lt}
 use Rattle.fill.specs.Phases.{becomes, seedOf, seeded}
 use Rattle.fill.specs.Passes.{Within, seedAt, Alike}
@@ -131,10 +132,6 @@ pub record Counted (ok : ℕ → Bool) (l : List ℕ) (n i : ℕ) : Type 0 where
   pub within : i ≤ length l
   pub few : n ≤ i
   pub rest : n + count ok (drop i l) ≡ count ok l
-
-one-most : (b : Bool) → cond b 1 0 ≤ 1
-one-most true = omega arith
-one-most false = omega arith
 
 module _ (ok : ℕ → Bool) (l : List ℕ) where
   pub counted-none : Counted ok l 0 0

@@ -13,24 +13,17 @@ use Rattle.grid.proofs.Counts.{count-most}
 use Rattle.spread.specs.Run.{Run, Proper}
 use Rattle.spread.proofs.Keeps.{Weighs}
 use Rattle.spread.proofs.Runs.{run-one, run-some, run-falls}
-use Rattle.spread.proofs.Turns.{sheet-kept}
+use Rattle.grid.proofs.Cells.{sheet-kept}
 use Rattle.fill.specs.Phases.{outward, phaseOf, Alternate, last, again}
 
 -- ---- the phases end
 
 pub outward-proper : (mark : ℕ) → 3 < mark → Proper (outward mark)
-outward-proper mark h = record {
-  set-unwalked = omega arith;
-  set-unpassed = omega arith;
-  surface-unwalked = omega arith;
-  surface-unpassed = omega arith;
-  eight-unwalked = omega arith;
-  eight-unpassed = omega arith;
-}
+outward-proper mark h = omega arith
 
 pub phase-proper : (b : Bool) → Proper (phaseOf b)
-phase-proper true = record { set-unwalked = omega arith; set-unpassed = omega arith; surface-unwalked = omega arith; surface-unpassed = omega arith; eight-unwalked = omega arith; eight-unpassed = omega arith }
-phase-proper false = record { set-unwalked = omega arith; set-unpassed = omega arith; surface-unwalked = omega arith; surface-unpassed = omega arith; eight-unwalked = omega arith; eight-unpassed = omega arith }
+phase-proper true = omega arith
+phase-proper false = omega arith
 
 -- ---- the cells that a phase may still walk have a label below 3
 

@@ -12,7 +12,7 @@ use lib.Seq.{getD-set-same, getD-set-other, ext-getD}
 use borrow.Author.Tests.{eqb-true, eqb-false, eq-eqb}
 use Rattle.grid.specs.declared.Axes.{Axes}
 use Rattle.grid.specs.declared.Cell.{Cell}
-use Rattle.grid.specs.Grid.{Sound, num, cellNumbered, cells, InGrid, at, firstOnes, labelsBy, Next, along-i, along-j, along-k, Face, Border, first-i, first-j, first-k, last-i, last-j, last-k, onBorder}
+use Rattle.grid.specs.Grid.{Sound, Sheet, num, cellNumbered, cells, InGrid, at, firstOnes, labelsBy, Next, along-i, along-j, along-k, Face, Border, first-i, first-j, first-k, last-i, last-j, last-k, onBorder}
 use Rattle.grid.proofs.First.{le-or-lt}
 
 pub dec-eq : {C : Type 0} (a b : ℕ) → (a ≡ b → C) → ((a ≡ b → ⊥) → C) → C
@@ -21,6 +21,10 @@ dec-eq {C} a b y n = go (eqb a b) refl
     go : (t : Bool) → eqb a b ≡ t → C
     go true e = y (eqb-true a b e)
     go false e = n (eqb-false a b e)
+
+-- one number is not two
+pub not-both : (n a b : ℕ) → (a ≡ b → ⊥) → n ≡ a → n ≡ b → ⊥
+not-both n a b z p q = z (sym p ∙ q)
 
 -- ---- a cell's number, from its coordinates
 
@@ -131,6 +135,10 @@ labels-at r f c h = ones-at (cells r) (λ n. f (cellNumbered r n)) (num r c) (nu
 -- and there is no other such list
 pub labels-one : (r : Axes) (f : Cell → ℕ) (l : List ℕ) → length l ≡ cells r → ((c : Cell) → InGrid r c → at r l c ≡ f c) → l ≡ labelsBy r f
 labels-one r f l e h = by-cell r l (labelsBy r f) e (labels-length r f) (λ c i. h c i ∙ sym (labels-at r f c i))
+
+-- as many labels as before are still a label for each cell
+pub sheet-kept : (r : Axes) (l m : List ℕ) → length m ≡ length l → Sheet r l → Sheet r m
+sheet-kept r l m e s = record { sound = s .sound; size = e ∙ s .size }
 
 -- ---- what a store changes
 

@@ -9,12 +9,8 @@ use Rattle.grid.specs.declared.Axes.{Axes}
 use Rattle.grid.specs.declared.Cell.{Cell}
 use Rattle.grid.specs.Grid.{cells, at}
 use Rattle.grid.specs.Flood.{NoSurface, Aired, Floods, surface, outside, inside, Flooded}
-use Rattle.grid.proofs.Cells.{by-cell}
+use Rattle.grid.proofs.Cells.{not-both, by-cell}
 use Rattle.grid.proofs.Paths.{joined-kind}
-
--- one number is not two
-two : (n a b : ℕ) → (a ≡ b → ⊥) → n ≡ a → n ≡ b → ⊥
-two n a b z p q = z (sym p ∙ q)
 
 module _ (r : Axes) (m : List ℕ) where
   -- a path to the border passes no surface
@@ -28,8 +24,8 @@ module _ (r : Axes) (m : List ℕ) where
       where
         to : Floods r m c v → v ≡ 8 → at r m c ≡ 8
         to (surface p e) q = p
-        to (outside a e) q = absurd (two v 6 8 (omega arith) e q)
-        to (inside n z e) q = absurd (two v 7 8 (omega arith) e q)
+        to (outside a e) q = absurd (not-both v 6 8 (omega arith) e q)
+        to (inside n z e) q = absurd (not-both v 7 8 (omega arith) e q)
 
         back : Floods r m c v → at r m c ≡ 8 → v ≡ 8
         back (surface p e) q = e
@@ -40,9 +36,9 @@ module _ (r : Axes) (m : List ℕ) where
     outside-means f = (to f, back f)
       where
         to : Floods r m c v → v ≡ 6 → Aired r m c
-        to (surface p e) q = absurd (two v 8 6 (omega arith) e q)
+        to (surface p e) q = absurd (not-both v 8 6 (omega arith) e q)
         to (outside a e) q = a
-        to (inside n z e) q = absurd (two v 7 6 (omega arith) e q)
+        to (inside n z e) q = absurd (not-both v 7 6 (omega arith) e q)
 
         back : Floods r m c v → Aired r m c → v ≡ 6
         back (surface p e) a = absurd (aired-open a p)
@@ -53,8 +49,8 @@ module _ (r : Axes) (m : List ℕ) where
     inside-means f = (to f, back f)
       where
         to : Floods r m c v → v ≡ 7 → NoSurface r m c × (Aired r m c → ⊥)
-        to (surface p e) q = absurd (two v 8 7 (omega arith) e q)
-        to (outside a e) q = absurd (two v 6 7 (omega arith) e q)
+        to (surface p e) q = absurd (not-both v 8 7 (omega arith) e q)
+        to (outside a e) q = absurd (not-both v 6 7 (omega arith) e q)
         to (inside n z e) q = (n, z)
 
         back : Floods r m c v → NoSurface r m c × (Aired r m c → ⊥) → v ≡ 7

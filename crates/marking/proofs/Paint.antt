@@ -15,7 +15,7 @@ use Rattle.grid.specs.declared.Cell.{Cell}
 use Rattle.grid.specs.First.{someBelow}
 use Rattle.grid.specs.Grid.{InGrid, num, at, Sheet}
 use Rattle.grid.proofs.First.{le-or-lt}
-use Rattle.grid.proofs.Cells.{cell-path, stored}
+use Rattle.grid.proofs.Cells.{cell-path, sheet-kept, stored}
 use Rattle.touch.specs.declared.Slabs.{Slabs}
 use Rattle.touch.specs.Touch.{touching}
 use Rattle.touch.specs.Slabs.{keptAll, slabsOf}
@@ -51,7 +51,7 @@ module _ (r : Axes) where
 
   -- a sheet stays one
   pub painted-sheet : (p : Cell → Bool) (l m : List ℕ) → Painted r p l m → Sheet r l → Sheet r m
-  painted-sheet p l m w s = record { sound = s .sound; size = w .size ∙ s .size }
+  painted-sheet p l m w s = sheet-kept r l m (w .size) s
 
 -- ---- along an axis: the places from e's first up to, not including, i
 

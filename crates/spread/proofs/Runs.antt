@@ -16,7 +16,7 @@ use Rattle.spread.specs.declared.Phase.{Phase}
 use Rattle.spread.specs.Scan.{State, walkedFrom, visited, scanned}
 use Rattle.spread.specs.Run.{Run, done, more, Proper}
 use Rattle.spread.proofs.Rays.{one-less}
-use Rattle.spread.proofs.Turns.{sheet-kept}
+use Rattle.grid.proofs.Cells.{sheet-kept}
 use Rattle.spread.proofs.Keeps.{Kept, Weighs, walk-keeps, scan-keeps, by-visit, scan-weight}
 
 -- ---- two runs from the same labels leave the same labels after the same number of scans

@@ -10,6 +10,7 @@ use borrow.Author.Tests.{eq-eqb, ne-eqb}
 use Rattle.grid.specs.declared.Axes.{Axes}
 use Rattle.grid.specs.declared.Cell.{Cell}
 use Rattle.grid.specs.Grid.{num, at, Sheet}
+use Rattle.grid.proofs.Cells.{sheet-kept}
 use Rattle.spread.specs.declared.Phase.{Phase}
 use Rattle.spread.specs.Scan.{State, isWalker, walkedFrom, visited, inTurn}
 
@@ -55,9 +56,6 @@ module _ (f : ℕ → State → State) (n i : ℕ) (s : State) where
     where
       no-more : (n i : ℕ) → n ≤ i → n - i ≡ 0
       no-more n i h = omega arith
-
-pub sheet-kept : (r : Axes) (l m : List ℕ) → length m ≡ length l → Sheet r l → Sheet r m
-sheet-kept r l m e s = record { sound = s .sound; size = e ∙ s .size }
 
 -- where it stands at i, with labels l and w cells walked, of which each turn adds at most u
 pub record Turns (r : Axes) (f : ℕ → State → State) (n u : ℕ) (l₀ : List ℕ) (w₀ : ℕ) (l : List ℕ) (w i : ℕ) : Type 0 where

@@ -5,10 +5,9 @@ use mathlib.Core.List.{List, map}
 use Prim.Native.Nat.{ℕ, _+_}
 use native.Mathlib.Omega.{arith}
 use lib.ListN.{length}
-use Rattle.grid.proofs.Cells.{cells-max}
+use Rattle.grid.proofs.Cells.{cells-max, sheet-kept}
 use Rattle.spread.specs.declared.Phase.{Phase}
 use Rattle.spread.specs.Run.{Run, Proper}
-use Rattle.spread.proofs.Turns.{sheet-kept}
 use Rattle.fill.specs.Phases.{becomes, seeded, outward, CavityRun}
 use Rattle.fill.proofs.Passes.{within-map, surfaces-back}
 use Rattle.fill.proofs.Swings.{outward-proper, cavities-few}

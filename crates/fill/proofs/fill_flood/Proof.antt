@@ -6,7 +6,7 @@ use Prim.Native.Nat.{ℕ}
 use native.Mathlib.Omega.{arith}
 use Rattle.spread.specs.declared.Phase.{Phase}
 use Rattle.spread.specs.Run.{Run, Proper}
-use Rattle.spread.proofs.Turns.{sheet-kept}
+use Rattle.grid.proofs.Cells.{sheet-kept}
 use Rattle.fill.specs.Phases.{becomes, seeded, FloodRun}
 use Rattle.fill.proofs.Passes.{within-map}
 use Rattle.fill.proofs.Swings.{outward-proper}

@@ -5,7 +5,7 @@ use native.Mathlib.Nat.{add-mul, one-mul, zero-mul, mul-comm, mul-le-mul}
 use native.Mathlib.Omega.{arith}
 use Rattle.grid.specs.declared.Axes.{Axes}
 use Rattle.grid.specs.Grid.{cells}
-use Rattle.spread.proofs.Turns.{sheet-kept}
+use Rattle.grid.proofs.Cells.{sheet-kept}
 use Rattle.fill.specs.Passes.{Within, seedAt}
 use Rattle.fill.proofs.Passes.{within-none, within-then, within-seeded}
 use Rattle.fill.proofs.seed.Statement.{statement}

@@ -4,8 +4,7 @@ use Prim.Native.Nat.{ℕ, _+_, _*_, _-_, _≤_}
 use native.Mathlib.Nat.{add-mul, one-mul, zero-mul, mul-comm}
 use native.Mathlib.Omega.{arith}
 use Rattle.grid.specs.Grid.{InGrid, num}
-use Rattle.grid.proofs.Cells.{cells-max}
-use Rattle.spread.proofs.Turns.{sheet-kept}
+use Rattle.grid.proofs.Cells.{cells-max, sheet-kept}
 use Rattle.fill.specs.Passes.{Within, seedAt}
 use Rattle.fill.proofs.Passes.{within-none, within-then, row-fits}
 use Rattle.fill.proofs.seed_layer.Statement.{statement}

@@ -7,9 +7,9 @@ use Prim.Native.Nat.{ℕ, _+_}
 use native.Mathlib.Omega.{arith}
 use lib.ListN.{getD, set, length-set}
 use Rattle.grid.specs.Grid.{at}
-use Rattle.grid.proofs.Cells.{num-lt}
+use Rattle.grid.proofs.Cells.{num-lt, sheet-kept}
 use Rattle.spread.specs.Scan.{isWalker, walkedFrom}
-use Rattle.spread.proofs.Turns.{visit-done, visit-walk, visit-none, sheet-kept}
+use Rattle.spread.proofs.Turns.{visit-done, visit-walk, visit-none}
 use Rattle.spread.proofs.visit.Statement.{statement}
 use Rattle.spread.proofs.visit.Tie as tie
 
