@@ -94,8 +94,9 @@ fn visit(l: &mut [u8], p: Phase, r: Axes, c: Cell, at: usize, walked: usize) -> 
     ensures { λ n. ⌜ record { labels = now (l .exit); walked = n } ≡ visited p r c (record { labels = now (l .entry); walked = walked }) ⌝ }
     ensures { λ n. ⌜ n ≤ walked + 1 ⌝ }
 {
+    let todo = p.todo;
     let v = l[at];
-    if v == p.todo {
+    if v == todo {
         l[at] = p.done;
         walks(l, p, r, c, at);
         return walked + 1;
