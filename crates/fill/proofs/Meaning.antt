@@ -12,6 +12,7 @@ use borrow.Author.Tests.{eqb-true, eq-eqb, ne-eqb, le-leb, lt-leb}
 use Rattle.grid.specs.declared.Axes.{Axes}
 use Rattle.grid.specs.declared.Cell.{Cell}
 use Rattle.grid.specs.declared.Checked.the-variants.{Fine}
+use Rattle.grid.specs.declared.LabelSet.{LabelSet}
 use Rattle.grid.specs.Checks.{takes, labelsFault}
 use Rattle.grid.specs.Counts.{countOf}
 use Rattle.grid.specs.Flood.{Aired, Floods, surface, outside, inside, Flooded}
@@ -19,16 +20,17 @@ use Rattle.grid.specs.Grid.{InGrid, num, cells, cellNumbered, at, Border, onBor
 use Rattle.grid.specs.Paths.{starts, steps}
 use Rattle.grid.proofs.Cells.{not-both, num-lt, number-of-cell, cell-in, labels-length, labels-at, border-test}
 use Rattle.grid.proofs.Checks.{first-fine}
+use Rattle.grid.proofs.First.{every-all}
 use Rattle.grid.proofs.Counts.{count-most, count-others, count-map, count-alike, count-none}
 use Rattle.spread.specs.Spread.{Plain, Reached, Spread}
 use Rattle.spread.proofs.Keeps.{Weighs}
-use Rattle.spread.proofs.Runs.{Same, run-keeps, run-falls}
+use Rattle.spread.proofs.Runs.{All, Same, Stays, run-keeps, run-stays, run-falls}
 use Rattle.spread.proofs.Spreads.{spreads}
 use Rattle.fill.specs.declared.Counts.{Counts}
 use Rattle.fill.specs.declared.Mode.{Mode}
 use Rattle.fill.specs.declared.Mode.the-variants.{SurfaceOnly, Flood, Cavities}
 use Rattle.fill.specs.Phases.{becomes, seedOf, seeded, outward, phaseOf, Alternate, last, again, surfaceOnly, FloodRun, CavityRun}
-use Rattle.fill.specs.Modes.{marks, isLeft, left, OthersOutside, SameSurface, Fills, Means}
+use Rattle.fill.specs.Modes.{marks, isLeft, left, OthersOutside, SameSurface, Among, cavityLabels, Fills, Means}
 use Rattle.fill.specs.Passes.{Marks}
 use Rattle.fill.proofs.Passes.{map-at}
 use Rattle.fill.proofs.Swings.{outward-proper}
@@ -243,6 +245,53 @@ module _ (r : Axes) (l : List ℕ) (size : length l ≡ cells r) (m : Marks l) w
         let w = start-walls c (start c h) in
         ((λ q. w .0 (sym (kept-at c) ∙ b .0 (sym is ∙ q))), (λ q. is ∙ b .1 (kept-at c ∙ w .1 q)))
 
+  -- ---- cavities: no label but these
+
+  -- every label but 3
+  abbrev working : LabelSet
+  working = record { l0 = true; l1 = true; l2 = true; l3 = false; l4 = true; l5 = true; l6 = true; l7 = true; l8 = true }
+
+  outward-works : Stays (outward 4) (takes working)
+  outward-works = record { passing = refl; setting = refl; marking = refl }
+
+  phase-works : (b : Bool) → Stays (phaseOf b) (takes working)
+  phase-works true = record { passing = refl; setting = refl; marking = refl }
+  phase-works false = record { passing = refl; setting = refl; marking = refl }
+
+  turns-work : {b : Bool} {a e : List ℕ} {n : ℕ} → Alternate r b a e n → All (takes working) a → All (takes working) e
+  turns-work (last {b = b} t) a = run-stays (phaseOf b) r (takes working) (phase-works b) t a
+  turns-work (again {b = b} t u) a = turns-work u (run-stays (phaseOf b) r (takes working) (phase-works b) t a)
+
+  seeds-work : All (takes working) s
+  seeds-work n h = subst (λ (x : ℕ). takes working (getD s x 0) ≡ true) (number-of-cell r n) (go (start (cellNumbered r n) (cell-in r n (omega (arith, seeded-size)))))
+    where
+      go : Start (cellNumbered r n) → takes working (at r s (cellNumbered r n)) ≡ true
+      go (seed p q e) = ap (takes working) e
+      go (wall q e) = ap (takes working) e
+      go (inner p q e) = ap (takes working) e
+
+  -- 3, 4 and 5 become 8
+  last-step : (v : ℕ) → takes working v ≡ true → takes cavityLabels (becomes 3 5 8 v) ≡ true
+  last-step zero h = refl
+  last-step (suc zero) h = refl
+  last-step (suc (suc zero)) h = refl
+  last-step (suc (suc (suc zero))) h = refl
+  last-step (suc (suc (suc (suc zero)))) h = refl
+  last-step (suc (suc (suc (suc (suc zero))))) h = refl
+  last-step (suc (suc (suc (suc (suc (suc zero)))))) h = refl
+  last-step (suc (suc (suc (suc (suc (suc (suc zero))))))) h = refl
+  last-step (suc (suc (suc (suc (suc (suc (suc (suc zero)))))))) h = refl
+  last-step (suc (suc (suc (suc (suc (suc (suc (suc (suc v))))))))) h = absurd (true≢false (sym h))
+
+  cavity-labels : (f : List ℕ) (n : ℕ) → CavityRun r l f n → Among cavityLabels f
+  cavity-labels f n run =
+      let worked = turns-work (run .turns) (run-stays (outward 4) r (takes working) outward-works (run .phase) seeds-work) in
+      every-all (takes cavityLabels) 0 f (λ k h.
+      let g : k < length (run .ended) = subst (λ (x : ℕ). k < x) (ap length (run .labels) ∙ length-map (run .ended) (becomes 3 5 8)) h in
+      ap (λ (x : List ℕ). takes cavityLabels (getD x k 0)) (run .labels)
+      ∙ ap (takes cavityLabels) (map-at (becomes 3 5 8) (run .ended) k g)
+      ∙ last-step (getD (run .ended) k 0) (worked k g))
+
 -- ---- in every mode, what the procedure leaves means what it should
 
 pub fills-mean : (mode : Mode) (r : Axes) (l m : List ℕ) (n : Counts) → length l ≡ cells r → Marks l → Fills mode r l n m → Means mode r l n m
@@ -252,4 +301,4 @@ fills-mean SurfaceOnly r l m n size k w =
 fills-mean Flood r l m n size k w =
     let run = w .scanned in
     (flooded r l size k m (n .scans) run, w .counted ∙ flood-left r l size k m (n .scans) run, flood-few r l size k m (n .scans) run)
-fills-mean Cavities r l m n size k w = same-surface r l size k m (n .scans) (w .scanned)
+fills-mean Cavities r l m n size k w = (same-surface r l size k m (n .scans) (w .scanned), cavity-labels r l size k m (n .scans) (w .scanned))

@@ -11,8 +11,9 @@ use Rattle.grid.specs.declared.Cell.{Cell}
 use Rattle.grid.specs.declared.Checked.{Checked}
 use Rattle.grid.specs.declared.LabelSet.{LabelSet}
 use Rattle.grid.specs.Answers.{Outcome, answers, refuses, _andThen_}
-use Rattle.grid.specs.Checks.{gridFault, labelsFault}
+use Rattle.grid.specs.Checks.{gridFault, takes, labelsFault}
 use Rattle.grid.specs.Counts.{count, countOf}
+use Rattle.grid.specs.First.{every}
 use Rattle.grid.specs.Flood.{Flooded}
 use Rattle.grid.specs.Grid.{InGrid, at}
 use Rattle.fill.specs.declared.Mode.{Mode}
@@ -64,8 +65,16 @@ pub record OthersOutside (r : Axes) (before after : List ℕ) : Type 0 where
 abbrev pub SameSurface : Axes → List ℕ → List ℕ → Type 0
 SameSurface r before after = (c : Cell) → InGrid r c → (at r after c ≡ 8) ↔ (at r before c ≡ 8)
 
--- surface-only: every other cell is 6, in 0 scans. Flood: demand 2, none left, and "scans are at most the Outside cells plus 1". With cavities: surface cells stay surface; which other cells get which label, only the scans say
+-- every label is one of a set
+abbrev pub Among : LabelSet → List ℕ → Type 0
+Among s l = every (takes s) l ≡ true
+
+-- surface, Outside, Inside, and what a phase has not walked: 0, 1 and 2
+abbrev pub cavityLabels : LabelSet
+cavityLabels = record { l0 = true; l1 = true; l2 = true; l3 = false; l4 = false; l5 = false; l6 = true; l7 = true; l8 = true }
+
+-- surface-only: every other cell is 6, in 0 scans. Flood: demand 2, none left, and "scans are at most the Outside cells plus 1". With cavities: surface cells stay surface, and no working label of a surface stays; which other cells get which label, only the scans say
 abbrev pub Means : Mode → Axes → List ℕ → Counts → List ℕ → Type 0
 Means SurfaceOnly r before n after = OthersOutside r before after × (n .scans ≡ 0) × (n .left ≡ 0)
 Means Flood r before n after = Flooded r before after × (n .left ≡ 0) × (n .scans ≤ countOf 6 after + 1)
-Means Cavities r before n after = SameSurface r before after
+Means Cavities r before n after = SameSurface r before after × Among cavityLabels after

@@ -132,6 +132,14 @@ some-fails ok (x ∷ xs) h = go (some-fails ok xs) (ok x) h
     go rest true e = suc-le-suc (rest e)
     go rest false e = suc-le-suc zero-le
 
+-- every element passes where each does
+pub every-all : {A : Type 0} (ok : A → Bool) (d : A) (xs : List A) → ((k : ℕ) → k < length xs → ok (getD xs k d) ≡ true) → every ok xs ≡ true
+every-all ok d xs h = go (every ok xs) refl
+  where
+    go : (b : Bool) → every ok xs ≡ b → every ok xs ≡ true
+    go true e = e
+    go false e = let l = some-fails ok xs e in absurd (true≢false (sym (h (firstNot ok xs) l) ∙ at-first ok d xs l))
+
 -- ---- some number below n
 
 or-true : (a b : Bool) → (a || b) ≡ true → (a ≡ true) ⊎ (b ≡ true)

@@ -1,12 +1,12 @@
--- Laws of specs/Run.antt: what the loop of a phase goes by, that a phase is determined by the labels it starts from, how many scans it takes, and what it keeps. Assumes nothing.
+-- Laws of specs/Run.antt: what the loop of a phase goes by, that a phase is determined by the labels it starts from, how many scans it takes, what it keeps, and a set of labels that it stays in. Assumes nothing.
 use mathlib.Core.Bool.{Bool, true, false, _||_}
 use mathlib.Core.Path.{_≡_, refl, sym, ap, subst, _∙_}
 use mathlib.Core.List.{List, map}
 use Prim.Native.Nat.{ℕ, suc, _+_, _≤_, _<_}
 use native.Mathlib.Omega.{arith}
 use lib.Dec.{eqb}
-use lib.ListN.{length}
-use lib.Seq.{map-set-same}
+use lib.ListN.{length, getD, set, length-set}
+use lib.Seq.{getD-set-same, getD-set-other, map-set-same}
 use borrow.Author.Tests.{eq-eqb, ne-eqb}
 use Rattle.grid.specs.declared.Axes.{Axes}
 use Rattle.grid.specs.declared.Cell.{Cell}
@@ -16,7 +16,7 @@ use Rattle.spread.specs.declared.Phase.{Phase}
 use Rattle.spread.specs.Scan.{State, walkedFrom, visited, scanned}
 use Rattle.spread.specs.Run.{Run, done, more, Proper}
 use Rattle.spread.proofs.Rays.{one-less}
-use Rattle.grid.proofs.Cells.{sheet-kept}
+use Rattle.grid.proofs.Cells.{dec-eq, sheet-kept}
 use Rattle.spread.proofs.Keeps.{Kept, Weighs, walk-keeps, scan-keeps, by-visit, scan-weight}
 
 -- ---- two runs from the same labels leave the same labels after the same number of scans
@@ -143,3 +143,38 @@ module _ (p : Phase) (r : Axes) (g : ℕ → Bool) (k : Same p g) where
   pub run-keeps : {l e : List ℕ} {n : ℕ} → Run p r l e n → map g e ≡ map g l
   run-keeps (done {l = l} q) = ap (λ (s : State). map g (s .labels)) (sym q) ∙ scan-read l
   run-keeps (more {l = l} q t) = run-keeps t ∙ ap (λ (s : State). map g (s .labels)) (sym q) ∙ scan-read l
+
+-- ---- a set of labels that a phase stays in
+
+abbrev pub All : (ℕ → Bool) → List ℕ → Type 0
+All ok l = (n : ℕ) → n < length l → ok (getD l n 0) ≡ true
+
+pub record Stays (p : Phase) (ok : ℕ → Bool) : Type 0 where
+  pub passing : ok (p .todo) ≡ true
+  pub setting : ok (p .done) ≡ true
+  pub marking : ok (p .mark) ≡ true
+
+module _ (p : Phase) (r : Axes) (ok : ℕ → Bool) (k : Stays p ok) where
+  store-all : (l : List ℕ) (n v : ℕ) → ok v ≡ true → All ok l → All ok (set l n v)
+  store-all l n v e a t h =
+      let g : t < length l = subst (λ (m : ℕ). t < m) (length-set l n v) h in
+      dec-eq t n
+      (λ q. ap (λ (x : ℕ). ok (getD (set l n v) x 0)) q ∙ ap ok (getD-set-same l n v 0 (subst (λ (x : ℕ). x < length l) q g)) ∙ e)
+      (λ z. ap ok (getD-set-other l n t v 0 z) ∙ a t g)
+
+  all-kept : Kept p r (All ok)
+  all-kept = record { passing = λ l d h e a. store-all l (num r d) (p .todo) (k .passing) a; marking = λ l d h z e a. store-all l (num r d) (p .mark) (k .marking) a }
+
+  visit-all : (c : Cell) → InGrid r c → (s : State) → All ok (s .labels) → All ok (visited p r c s .labels)
+  visit-all c h s a =
+      by-visit p r c s
+      (λ e q. subst (λ (t : State). All ok (t .labels)) (sym q) (walk-keeps p r (All ok) all-kept c _ h (store-all (s .labels) (num r c) (p .done) (k .setting) a)))
+      (λ z e q. subst (λ (t : State). All ok (t .labels)) (sym q) (walk-keeps p r (All ok) all-kept c _ h a))
+      (λ z e q. subst (λ (t : State). All ok (t .labels)) (sym q) a)
+
+  scan-all : (l : List ℕ) → All ok l → All ok (scanned p r l .labels)
+  scan-all l a = scan-keeps p r (λ s. All ok (s .labels)) visit-all l a
+
+  pub run-stays : {l e : List ℕ} {n : ℕ} → Run p r l e n → All ok l → All ok e
+  run-stays (done {l = l} q) a = subst (λ (s : State). All ok (s .labels)) q (scan-all l a)
+  run-stays (more {l = l} q t) a = run-stays t (subst (λ (s : State). All ok (s .labels)) q (scan-all l a))
