@@ -4,7 +4,7 @@ use mathlib.Core.Logic.{_⊎_, inl, inr, ⊎-elim, _↔_}
 use mathlib.Core.Path.{_≡_, refl, sym, ap, subst, _∙_}
 use mathlib.Core.List.{List}
 use Prim.Native.Nat.{ℕ, zero, suc, _+_, _*_, _-_, _/_, _%_, _≤_, _<_}
-use native.Mathlib.Nat.{mul-comm, mul-assoc, suc-mul, add-mul, zero-mul, one-mul, mul-le-mul, mul-le-mul-right, div-add-mod', mod-lt, div-lt-iff-lt-mul}
+use native.Mathlib.Nat.{mul-comm, mul-assoc, suc-mul, add-mul, zero-mul, mul-le-mul, mul-le-mul-right, div-add-mod', mod-lt, div-lt-iff-lt-mul}
 use native.Mathlib.Omega.{arith}
 use lib.Dec.{eqb}
 use lib.ListN.{length, getD, set}
@@ -12,7 +12,7 @@ use lib.Seq.{getD-set-same, getD-set-other, ext-getD}
 use borrow.Author.Tests.{eqb-true, eqb-false, eq-eqb}
 use Rattle.grid.specs.declared.Axes.{Axes}
 use Rattle.grid.specs.declared.Cell.{Cell}
-use Rattle.grid.specs.Grid.{Sound, Sheet, num, cellNumbered, cells, InGrid, at, firstOnes, labelsBy, Next, along-i, along-j, along-k, Face, Border, first-i, first-j, first-k, last-i, last-j, last-k, onBorder}
+use Rattle.grid.specs.Grid.{Sound, Sheet, num, cellNumbered, cells, InGrid, at, firstOnes, labelsBy, Face, Border, first-i, first-j, first-k, last-i, last-j, last-k, onBorder}
 use Rattle.grid.proofs.First.{le-or-lt}
 
 pub dec-eq : {C : Type 0} (a b : ℕ) → (a ≡ b → C) → ((a ≡ b → ⊥) → C) → C
@@ -177,26 +177,6 @@ cells-max r f =
 pub swap-face : {c d : Cell} → Face c d → Face d c
 swap-face (inl x) = inr x
 swap-face (inr x) = inl x
-
--- the neighbour's number is 1, r0 or r0 r1 further on
-pub data Apart (r : Axes) (a b : ℕ) : Type 0 where
-  by-i : b ≡ a + 1 → Apart r a b
-  by-j : b ≡ a + r .r0 → Apart r a b
-  by-k : b ≡ a + r .r0 * r .r1 → Apart r a b
-
-pub next-num : (r : Axes) (c d : Cell) → Next c d → Apart r (num r c) (num r d)
-next-num r c d (along-i p q s) = by-i (step (c .i) (d .i) (c .j) (d .j) (c .k) (d .k) (r .r0) (r .r0 * r .r1) p q s)
-  where
-    step : (i i' j j' k k' a b : ℕ) → i' ≡ i + 1 → j' ≡ j → k' ≡ k → i' + j' * a + k' * b ≡ i + j * a + k * b + 1
-    step i i' j j' k k' a b p q s = omega (arith, ap (λ (t : ℕ). t * a) q, ap (λ (t : ℕ). t * b) s)
-next-num r c d (along-j p q s) = by-j (step (c .i) (d .i) (c .j) (d .j) (c .k) (d .k) (r .r0) (r .r0 * r .r1) p q s)
-  where
-    step : (i i' j j' k k' a b : ℕ) → i' ≡ i → j' ≡ j + 1 → k' ≡ k → i' + j' * a + k' * b ≡ i + j * a + k * b + a
-    step i i' j j' k k' a b p q s = omega (arith, ap (λ (t : ℕ). t * a) q ∙ add-mul j 1 a, one-mul a, ap (λ (t : ℕ). t * b) s)
-next-num r c d (along-k p q s) = by-k (step (c .i) (d .i) (c .j) (d .j) (c .k) (d .k) (r .r0) (r .r0 * r .r1) p q s)
-  where
-    step : (i i' j j' k k' a b : ℕ) → i' ≡ i → j' ≡ j → k' ≡ k + 1 → i' + j' * a + k' * b ≡ i + j * a + k * b + b
-    step i i' j j' k k' a b p q s = omega (arith, ap (λ (t : ℕ). t * a) q, ap (λ (t : ℕ). t * b) s ∙ add-mul k 1 b, one-mul b)
 
 -- ---- the border's test
 
