@@ -1,21 +1,18 @@
--- Laws of specs/Passes.antt: a pass place after place, one pass after another, what a whole pass leaves, and a loop that counts. Assumes nothing.
-use mathlib.Core.Bool.{Bool, false, cond}
+-- Laws of specs/Passes.antt: a pass place after place, one pass after another, and what a whole pass leaves. Assumes nothing.
+use mathlib.Core.Bool.{false, cond}
 use mathlib.Core.Logic.{_⊎_, inl, inr, ⊎-elim}
 use mathlib.Core.Path.{_≡_, refl, sym, ap, subst, _∙_}
 use mathlib.Core.List.{List, [], _∷_, map}
 use Prim.Native.Nat.{ℕ, zero, suc, _+_, _-_, _≤_, _<_, zero-le}
-use native.Mathlib.Numerals.{add-one}
 use native.Mathlib.Omega.{arith}
 use lib.Dec.{eqb}
-use lib.ListN.{length, getD, set, drop, length-set, length-map, drop-of-length-le}
-use lib.Seq.{getD-set-same, getD-set-other, ext-getD, drop-cons}
+use lib.ListN.{length, getD, set, length-set, length-map}
+use lib.Seq.{getD-set-same, getD-set-other, ext-getD}
 use borrow.Author.Tests.{ne-eqb, le-leb, lt-leb}
 use Rattle.grid.specs.declared.Axes.{Axes}
 use Rattle.grid.specs.declared.Cell.{Cell}
-use Rattle.grid.specs.Counts.{count}
 use Rattle.grid.specs.Grid.{InGrid, num, cells, at, cellNumbered, onBorder}
 use Rattle.grid.proofs.Cells.{dec-eq, num-lt, cell-of-number, labels-one}
-use Rattle.grid.proofs.Counts.{one-most}
 use Rattle.grid.proofs.First.{le-or-lt}
 use Rattle.fill.specs.Phases.{becomes, seedOf, seeded}
 use Rattle.fill.specs.Passes.{Within, seedAt, Alike}
@@ -125,25 +122,3 @@ module _ (r : Axes) (j k first : ℕ) (h : InGrid r (record { i = 0; j = j; k = 
       let high : eqb (r .r0 - (n - first)) 1 ≡ false = ne-eqb (r .r0 - (n - first)) 1 (omega arith) in
       let one : eqb (r .r0 - 1) 1 ≡ false = ne-eqb (r .r0 - 1) 1 (omega arith) in
       ap (onBorder r) is ∙ rw (low, high, one)
-
--- ---- a loop that counts the labels of a kind, and has passed those before i
-
-pub record Counted (ok : ℕ → Bool) (l : List ℕ) (n i : ℕ) : Type 0 where
-  pub within : i ≤ length l
-  pub few : n ≤ i
-  pub rest : n + count ok (drop i l) ≡ count ok l
-
-module _ (ok : ℕ → Bool) (l : List ℕ) where
-  pub counted-none : Counted ok l 0 0
-  counted-none = record { within = zero-le; few = zero-le; rest = omega arith }
-
-  pub counted-more : (n i v : ℕ) → Counted ok l n i → i < length l → v ≡ cond (ok (getD l i 0)) 1 0 → Counted ok l (n + v) (i + 1)
-  unfolding count
-  counted-more n i v w h e =
-      let next : drop i l ≡ getD l i 0 ∷ drop (i + 1) l = drop-cons l i 0 h ∙ ap (λ (k : ℕ). getD l i 0 ∷ drop k l) (sym (add-one i)) in
-      let more : count ok (drop i l) ≡ v + count ok (drop (i + 1) l) = ap (count ok) next ∙ ap (λ (t : ℕ). t + count ok (drop (i + 1) l)) (sym e) in
-      record { within = omega arith; few = omega (arith, w .few, e, one-most (ok (getD l i 0))); rest = omega (arith, w .rest, more) }
-
-  pub counted-all : (n i : ℕ) → Counted ok l n i → length l ≤ i → n ≡ count ok l
-  unfolding count
-  counted-all n i w h = let none : count ok (drop i l) ≡ 0 = ap (count ok) (drop-of-length-le l h) in omega (arith, w .rest, none)

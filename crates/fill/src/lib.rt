@@ -1,6 +1,6 @@
 // The fill: which cells are Outside and which Inside, from the surface cells.
 ghost use mathlib.Core.Path.{_≡_};
-ghost use mathlib.Core.Bool.{true, cond};
+ghost use mathlib.Core.Bool.{true};
 ghost use Prim.Native.Nat.{_+_, _*_, _≤_, _<_};
 ghost use lib.ListN.{length};
 ghost use Rattle.grid.specs.Answers.{Ends};
@@ -8,7 +8,7 @@ ghost use Rattle.grid.specs.Grid.{InGrid, num, Sheet};
 ghost use Rattle.spread.specs.Run.{Run};
 ghost use Rattle.fill.specs.declared.Mode.the-variants.{SurfaceOnly, Flood, Cavities};
 ghost use Rattle.fill.specs.Phases.{becomes, seeded, outward, phaseOf, Alternate};
-ghost use Rattle.fill.specs.Modes.{outcome, marks, fillFault, isLeft, left, Fills, Means};
+ghost use Rattle.fill.specs.Modes.{outcome, marks, fillFault, left, Fills, Means};
 ghost use Rattle.fill.specs.Passes.{Within, seedAt, Alike, Marks};
 use grid::Axes;
 use grid::Cell;
@@ -59,24 +59,6 @@ fn replace(labels: &mut [u8], from: usize, to: usize, low: u8, high: u8, new: u8
         labels[n] = v;
         n += 1;
     }
-}
-
-fn one_if_left(label: u8) -> usize
-    ensures { λ n. ⌜ n ≡ cond (isLeft label) 1 0 ⌝ }
-{
-    if label == 0 { 1 } else { 0 }
-}
-
-fn count_left(labels: &[u8]) -> usize
-    ensures { λ n. ⌜ n ≡ left (now (labels .entry)) ⌝ }
-{
-    let mut n = 0usize;
-    let mut i = 0usize;
-    while i < labels.len() {
-        n += one_if_left(labels[i]);
-        i += 1;
-    }
-    n
 }
 
 // ---- seeding
@@ -235,7 +217,7 @@ fn fill_cavities(labels: &mut [u8], r: Axes) -> Counts
     let later = turns(labels, r);
     replace(labels, 0, len, 4, 5, 8);
     replace(labels, 0, len, 3, 3, 8);
-    let left = count_left(labels);
+    let left = grid::count_label(labels, 0);
     Counts {
         scans: first + later,
         left,

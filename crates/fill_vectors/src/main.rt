@@ -112,9 +112,9 @@ fn report(f: Filling, labels: &[u8]) {
             replay::text(b"filled ");
             replay::number(c.scans as u64);
             replay::number(c.left as u64);
-            replay::number(replay::cells_with(labels, 6));
-            replay::number(replay::cells_with(labels, 7));
-            replay::number(replay::cells_with(labels, 8));
+            replay::number(grid::count_label(labels, 6) as u64);
+            replay::number(grid::count_label(labels, 7) as u64);
+            replay::number(grid::count_label(labels, 8) as u64);
         }
         Filling::Refused(f) => {
             replay::text(b"refused ");

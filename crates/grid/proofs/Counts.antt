@@ -1,13 +1,14 @@
--- Laws of specs/Counts.antt: what a store and a rule for every label change. Assumes nothing.
+-- Laws of specs/Counts.antt: what a store and a rule for every label change, and what a loop that counts goes by. Assumes nothing.
 use mathlib.Core.Bool.{Bool, true, false, cond, not}
-use mathlib.Core.Path.{_≡_, refl, ap}
+use mathlib.Core.Path.{_≡_, refl, sym, ap, _∙_}
 use mathlib.Core.List.{List, [], _∷_, map}
-use Prim.Native.Nat.{ℕ, zero, suc, _+_, _≤_, _<_}
+use Prim.Native.Nat.{ℕ, zero, suc, _+_, _≤_, _<_, zero-le}
 use native.Mathlib.Omega.{arith}
-use lib.ListN.{length, getD, set}
+use lib.ListN.{length, getD, set, drop, drop-of-length-le}
 use Rattle.grid.specs.Counts.{count}
+use Rattle.grid.proofs.First.{drop-next}
 
-pub one-most : (b : Bool) → cond b 1 0 ≤ 1
+one-most : (b : Bool) → cond b 1 0 ≤ 1
 one-most true = omega arith
 one-most false = omega arith
 
@@ -58,3 +59,24 @@ pub count-alike : (p q : ℕ → Bool) → ((v : ℕ) → p v ≡ q v) → (l : 
 unfolding count
 count-alike p q h [] = refl
 count-alike p q h (x ∷ l) = λ t. cond (h x t) 1 0 + count-alike p q h l t
+
+-- ---- a loop that counts the labels of a kind, and has passed those before i
+
+pub record Counted (ok : ℕ → Bool) (l : List ℕ) (n i : ℕ) : Type 0 where
+  pub within : i ≤ length l
+  pub few : n ≤ i
+  pub rest : n + count ok (drop i l) ≡ count ok l
+
+module _ (ok : ℕ → Bool) (l : List ℕ) where
+  pub counted-none : Counted ok l 0 0
+  counted-none = record { within = zero-le; few = zero-le; rest = omega arith }
+
+  pub counted-more : (n i v : ℕ) → Counted ok l n i → i < length l → v ≡ cond (ok (getD l i 0)) 1 0 → Counted ok l (n + v) (i + 1)
+  unfolding count
+  counted-more n i v w h e =
+      let more : count ok (drop i l) ≡ v + count ok (drop (i + 1) l) = ap (count ok) (drop-next 0 l i h) ∙ ap (λ (t : ℕ). t + count ok (drop (i + 1) l)) (sym e) in
+      record { within = omega arith; few = omega (arith, w .few, e, one-most (ok (getD l i 0))); rest = omega (arith, w .rest, more) }
+
+  pub counted-all : (n i : ℕ) → Counted ok l n i → length l ≤ i → n ≡ count ok l
+  unfolding count
+  counted-all n i w h = let none : count ok (drop i l) ≡ 0 = ap (count ok) (drop-of-length-le l h) in omega (arith, w .rest, none)

@@ -18,6 +18,9 @@ le-or-lt (suc a) (suc b) = ⊎-elim (λ p. inl (suc-le-suc p)) (λ q. inr (suc-l
 
 -- ---- a loop that has passed the elements before i
 
+pub drop-next : {A : Type 0} (d : A) (xs : List A) (i : ℕ) → i < length xs → drop i xs ≡ getD xs i d ∷ drop (i + 1) xs
+drop-next d xs i h = drop-cons xs i d h ∙ ap (λ (k : ℕ). getD xs i d ∷ drop k xs) (sym (add-one i))
+
 -- of firstNot: the place is still to be found, from i on
 pub record Looking {A : Type 0} (ok : A → Bool) (xs : List A) (i : ℕ) : Type 0 where
   pub within : i ≤ length xs
@@ -37,7 +40,7 @@ module _ {A : Type 0} (ok : A → Bool) (d : A) (xs : List A) where
 
   module _ (i : ℕ) (h : i < length xs) where
     next : drop i xs ≡ getD xs i d ∷ drop (i + 1) xs
-    next = drop-cons xs i d h ∙ ap (λ (k : ℕ). getD xs i d ∷ drop k xs) (sym (add-one i))
+    next = drop-next d xs i h
 
     first-at : firstNot ok (drop i xs) ≡ cond (ok (getD xs i d)) (suc (firstNot ok (drop (i + 1) xs))) 0
     unfolding firstNot

@@ -1,9 +1,11 @@
 // The ground of every call: axes, cells and their numbers, a grid's placement, refusals, and the
-// checks 8, 9 and 11 that calls share.
+// checks 8, 9 and 11 that calls share; and how many cells have a label.
+ghost use mathlib.Core.Bool.{cond};
 ghost use mathlib.Core.Path.{_≡_};
 ghost use Rattle.grid.specs.Answers.{faultAt, _andThen_};
 ghost use Rattle.grid.specs.First.{firstNot, every};
 ghost use Rattle.grid.specs.Grid.{num, Sound, InGrid, onBorder};
+ghost use Rattle.grid.specs.Counts.{countOf};
 ghost use Rattle.grid.specs.Checks.{badAxis, axesFault, gridFault, takes, labelsFault};
 
 // How many cells the grid has along i, j and k.
@@ -170,4 +172,23 @@ pub fn labels_fault(labels: &[u8], set: LabelSet) -> Checked
         return Checked::Fine;
     }
     fault(11, first_not_taken(labels, set))
+}
+
+fn one_if(same: bool) -> usize
+    ensures { λ n. ⌜ n ≡ cond same 1 0 ⌝ }
+{
+    if same { 1 } else { 0 }
+}
+
+// How many cells have a label.
+pub fn count_label(labels: &[u8], label: u8) -> usize
+    ensures { λ n. ⌜ n ≡ countOf label (now (labels .entry)) ⌝ }
+{
+    let mut n = 0usize;
+    let mut i = 0usize;
+    while i < labels.len() {
+        n += one_if(labels[i] == label);
+        i += 1;
+    }
+    n
 }

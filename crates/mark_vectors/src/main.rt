@@ -58,7 +58,7 @@ fn report(m: Marking, labels: &[u8]) {
     match m {
         Marking::Marked => {
             replay::text(b"marked ");
-            replay::number(replay::cells_with(labels, 8));
+            replay::number(grid::count_label(labels, 8) as u64);
         }
         Marking::Refused(f) => {
             replay::text(b"refused ");

@@ -51,22 +51,6 @@ pub fn ones() -> [f32; 196620]
 
 // ---- labels
 
-fn one_if(same: bool) -> usize
-    ensures { λ n. ⌜ n ≤ 1 ⌝ }
-{
-    if same { 1 } else { 0 }
-}
-
-pub fn cells_with(labels: &[u8], label: u8) -> u64 {
-    let mut n = 0usize;
-    let mut i = 0usize;
-    while i < labels.len() {
-        n += one_if(labels[i] == label);
-        i += 1;
-    }
-    n as u64
-}
-
 fn wide(label: u8) -> u64 {
     label as u64
 }

@@ -87,8 +87,8 @@ fn fill_and_show(labels: &mut [u8], r: Axes, mode: Mode, layer: usize)
         Filling::Filled(n) => {
             replay::number(n.scans as u64);
             replay::number(n.left as u64);
-            replay::number(replay::cells_with(labels, 6));
-            replay::number(replay::cells_with(labels, 7));
+            replay::number(grid::count_label(labels, 6) as u64);
+            replay::number(grid::count_label(labels, 7) as u64);
             replay::text(b"\n");
             show(labels, layer);
         }

@@ -16,7 +16,7 @@ use Rattle.fill.proofs.fill_cavities.Statement.{statement}
 use Rattle.fill.proofs.fill_cavities.Tie as tie
 
 -- the first phase, from the seeded labels
-first-phase : (c : tie.After-count-left) → Run (outward 4) (c .before .before .before .before .before .before .before .before .before .before .before .before .before .before .before .before .before .before .before .before .before .before .before .before .args .r) (seeded (c .before .before .before .before .before .before .before .before .before .before .before .before .before .before .before .before .before .before .before .before .before .before .before .before .args .r) (c .before .before .before .before .before .before .before .before .before .before .before .before .before .before .before .before .before .before .before .before .before .before .before .before .args .labels .now)) (c .before .before .before .before .before .before .before .before .before .before .before .before .before .before .before .before .run .last .0) (c .before .before .before .before .before .before .before .before .before .before .before .before .before .before .before .before .run .result)
+first-phase : (c : tie.After-count-label) → Run (outward 4) (c .before .before .before .before .before .before .before .before .before .before .before .before .before .before .before .before .before .before .before .before .before .before .before .before .args .r) (seeded (c .before .before .before .before .before .before .before .before .before .before .before .before .before .before .before .before .before .before .before .before .before .before .before .before .args .r) (c .before .before .before .before .before .before .before .before .before .before .before .before .before .before .before .before .before .before .before .before .before .before .before .before .args .labels .now)) (c .before .before .before .before .before .before .before .before .before .before .before .before .before .before .before .before .run .last .0) (c .before .before .before .before .before .before .before .before .before .before .before .before .before .before .before .before .run .result)
 first-phase c =
     let r = c .before .before .before .before .before .before .before .before .before .before .before .before .before .before .before .before .before .before .before .before .before .before .before .before .args .r in
     let e = c .before .before .before .before .before .before .before .before .before .before .before .before .before .before .before .before .run .last .0 in
@@ -25,7 +25,7 @@ first-phase c =
     (subst (λ (s : List ℕ). Run (c .before .before .before .before .before .before .before .before .before .before .before .before .before .before .before .before .before .before .outward-with .result) r s e n) (c .before .before .before .before .before .before .before .before .before .before .before .before .before .before .before .before .before .before .before .before .before .seed .ensures) (c .before .before .before .before .before .before .before .before .before .before .before .before .before .before .before .before .run .ensures))
 
 -- the labels after the phases are as many as before
-ended-size : (c : tie.After-count-left) → length (c .before .before .before .before .before .before .before .before .before .before .before .before .turns .last .0) ≡ length (c .before .before .before .before .before .before .before .before .before .before .before .before .before .before .before .before .before .before .before .before .before .before .before .before .args .labels .now)
+ended-size : (c : tie.After-count-label) → length (c .before .before .before .before .before .before .before .before .before .before .before .before .turns .last .0) ≡ length (c .before .before .before .before .before .before .before .before .before .before .before .before .before .before .before .before .before .before .before .before .before .before .before .before .args .labels .now)
 ended-size c = c .before .before .before .before .before .before .before .before .before .before .before .before .turns .kept .0 ∙ c .before .before .before .before .before .before .before .before .before .before .before .before .before .before .before .before .run .kept .0 ∙ c .before .before .before .before .before .before .before .before .before .before .before .before .before .before .before .before .before .before .before .before .before .seed .kept .0
 
 seed-requires : tie.Need-seed-requires
@@ -46,8 +46,8 @@ replace-requires c κs = (omega arith, omega (arith, c .before .before .before .
 replace-requires-2 : tie.Need-replace-requires-2
 replace-requires-2 c κs = (omega arith, omega (arith, c .before .before .before .replace .kept .0, c .before .before .before .before .before .before .before .turns .kept .0, c .before .before .before .before .before .before .before .before .before .before .before .run .kept .0, c .before .before .before .before .before .before .before .before .before .before .before .before .before .before .before .before .seed .kept .0))
 
-count-left-requires : tie.Need-count-left-requires
-count-left-requires c κs = search needs
+count-label-requires : tie.Need-count-label-requires
+count-label-requires c κs = search needs
 
 add-t21 : tie.Need-add-t21
 add-t21 c =
@@ -74,7 +74,7 @@ returns c =
       labels = threes ∙ ap (map (becomes 3 3 8)) fours ∙ surfaces-back ended;
       both = refl;
     } in
-    record { scanned = ran; counted = c .count-left .ensures }
+    record { scanned = ran; counted = c .count-label .ensures }
 
 pub fill-cavities-spec : {M : Type 1} → statement M
 fill-cavities-spec =
@@ -86,7 +86,7 @@ fill-cavities-spec =
     turns-requires
     replace-requires
     replace-requires-2
-    count-left-requires
+    count-label-requires
     add-t21
     same-length
     returns)
