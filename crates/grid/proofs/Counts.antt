@@ -32,6 +32,13 @@ module _ (ok : ℕ → Bool) where
   count-less (x ∷ l) zero v h p q = omega (arith, ap {B = ℕ} (λ (b : Bool). cond b 1 0) p, ap {B = ℕ} (λ (b : Bool). cond b 1 0) q)
   count-less (x ∷ l) (suc n) v h p q = omega (arith, count-less l n v (omega arith) p q)
 
+  -- a store that adds one
+  pub count-gain : (l : List ℕ) (n v : ℕ) → n < length l → ok (getD l n 0) ≡ false → ok v ≡ true → count ok (set l n v) ≡ count ok l + 1
+  unfolding count
+  count-gain [] n v h p q = absurd (omega arith)
+  count-gain (x ∷ l) zero v h p q = omega (arith, ap {B = ℕ} (λ (b : Bool). cond b 1 0) p, ap {B = ℕ} (λ (b : Bool). cond b 1 0) q)
+  count-gain (x ∷ l) (suc n) v h p q = omega (arith, count-gain l n v (omega arith) p q)
+
   -- the others
   pub count-others : (l : List ℕ) → count ok l + count (λ v. not (ok v)) l ≡ length l
   unfolding count

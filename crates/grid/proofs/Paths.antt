@@ -4,12 +4,8 @@ use mathlib.Core.Path.{_≡_, refl, sym, subst}
 use Rattle.grid.specs.declared.Axes.{Axes}
 use Rattle.grid.specs.declared.Cell.{Cell}
 use Rattle.grid.specs.Grid.{InGrid, Face}
-use Rattle.grid.specs.Paths.{Joined, starts, steps}
+use Rattle.grid.specs.Paths.{Joined, starts, steps, Only}
 use Rattle.grid.proofs.Cells.{swap-face}
-
--- the one cell c
-abbrev pub Only : Cell → Cell → Type 0
-Only c d = d ≡ c
 
 module _ {r : Axes} {Seed Pass : Cell → Type 0} where
   -- a path ends at a cell of the grid
@@ -39,9 +35,12 @@ module _ {r : Axes} {Seed Pass : Cell → Type 0} where
   joined-from (steps u f h p) = let w = joined-from u in (w .0, w .1, steps (w .2) f h p)
 
 -- more starts and more cells to pass keep every path
+pub joined-within : {r : Axes} {S S' P P' : Cell → Type 0} {c : Cell} → ((d : Cell) → InGrid r d → S d → S' d) → ((d : Cell) → InGrid r d → P d → P' d) → Joined r S P c → Joined r S' P' c
+joined-within a b (starts {c = c} h s) = starts h (a c h s)
+joined-within a b (steps {d = d} u f h p) = steps (joined-within a b u) f h (b d h p)
+
 pub joined-more : {r : Axes} {S S' P P' : Cell → Type 0} {c : Cell} → ((d : Cell) → S d → S' d) → ((d : Cell) → P d → P' d) → Joined r S P c → Joined r S' P' c
-joined-more a b (starts {c = c} h s) = starts h (a c s)
-joined-more a b (steps {d = d} u f h p) = steps (joined-more a b u) f h (b d p)
+joined-more a b = joined-within (λ d _. a d) (λ d _. b d)
 
 -- from a cell of one set or of another
 pub joined-either : {r : Axes} {S T P : Cell → Type 0} {c : Cell} → Joined r (λ d. S d ⊎ T d) P c ↔ (Joined r S P c ⊎ Joined r T P c)

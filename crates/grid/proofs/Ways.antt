@@ -1,4 +1,4 @@
--- Laws of specs/Ways.antt: a neighbour is a cell of the grid, shares a face and has a number one stride on; every face is one of the six ways. Assumes nothing.
+-- Laws of specs/Ways.antt: a neighbour is a cell of the grid, shares a face and has a number one stride on; the way back leads back; every face is one of the six ways. Assumes nothing.
 use mathlib.Core.Logic.{inl, inr}
 use mathlib.Core.Path.{_≡_, refl, sym, ap, _∙_}
 use Prim.Native.Nat.{ℕ, suc, _+_, _*_, _-_, _<_}
@@ -7,7 +7,7 @@ use native.Mathlib.Omega.{arith}
 use Rattle.grid.specs.declared.Axes.{Axes}
 use Rattle.grid.specs.declared.Cell.{Cell}
 use Rattle.grid.specs.Grid.{num, InGrid, along-i, along-j, along-k, Face}
-use Rattle.grid.specs.Ways.{Way, up-k, down-k, up-j, down-j, up-i, down-i, room, beside}
+use Rattle.grid.specs.Ways.{Way, up-k, down-k, up-j, down-j, up-i, down-i, room, beside, counter}
 use Rattle.grid.proofs.Cells.{cell-path}
 
 -- what a step adds to a cell's number, and what it takes away
@@ -69,6 +69,23 @@ module _ (r : Axes) (c : Cell) where
   beside-room down-j g = refl
   beside-room up-i g = omega arith
   beside-room down-i g = refl
+
+  -- the way back has room, and leads back
+  pub counter-room : (w : Way) → InGrid r c → 0 < room r w c → 0 < room r (counter w) (beside w c)
+  counter-room up-k h g = omega arith
+  counter-room down-k h g = omega (arith, h .k-in)
+  counter-room up-j h g = omega arith
+  counter-room down-j h g = omega (arith, h .j-in)
+  counter-room up-i h g = omega arith
+  counter-room down-i h g = omega (arith, h .i-in)
+
+  pub counter-beside : (w : Way) → 0 < room r w c → beside (counter w) (beside w c) ≡ c
+  counter-beside up-k g = cell-path _ c refl refl (omega arith)
+  counter-beside down-k g = cell-path _ c refl refl (omega arith)
+  counter-beside up-j g = cell-path _ c refl (omega arith) refl
+  counter-beside down-j g = cell-path _ c refl (omega arith) refl
+  counter-beside up-i g = cell-path _ c (omega arith) refl refl
+  counter-beside down-i g = cell-path _ c (omega arith) refl refl
 
   -- a cell of the grid that shares a face is the neighbour one of the ways
   pub face-way : (d : Cell) → InGrid r d → Face c d → (w : Way) × (0 < room r w c) × (d ≡ beside w c)

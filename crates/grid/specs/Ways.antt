@@ -33,3 +33,12 @@ beside up-j c = record { i = c .i; j = c .j + 1; k = c .k }
 beside down-j c = record { i = c .i; j = c .j - 1; k = c .k }
 beside up-i c = record { i = c .i + 1; j = c .j; k = c .k }
 beside down-i c = record { i = c .i - 1; j = c .j; k = c .k }
+
+-- the way back from there
+abbrev pub counter : Way → Way
+counter up-k = down-k
+counter down-k = up-k
+counter up-j = down-j
+counter down-j = up-j
+counter up-i = down-i
+counter down-i = up-i

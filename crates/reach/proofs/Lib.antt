@@ -1,0 +1,4 @@
+pub mod Ways
+pub mod Tests
+pub mod Weights
+pub mod Going
