@@ -6,7 +6,7 @@ use native.Mathlib.Nat.{suc-mul, add-mul}
 use native.Mathlib.Omega.{arith}
 use Rattle.grid.specs.declared.Axes.{Axes}
 use Rattle.grid.specs.declared.Cell.{Cell}
-use Rattle.grid.specs.Grid.{num, InGrid, along-i, along-j, along-k, Face}
+use Rattle.grid.specs.Grid.{num, InGrid, along-i, along-j, along-k, Face, Border, first-i, first-j, first-k, last-i, last-j, last-k}
 use Rattle.grid.specs.Ways.{Way, up-k, down-k, up-j, down-j, up-i, down-i, room, beside, counter}
 use Rattle.grid.proofs.Cells.{cell-path}
 
@@ -69,6 +69,15 @@ module _ (r : Axes) (c : Cell) where
   beside-room down-j g = refl
   beside-room up-i g = omega arith
   beside-room down-i g = refl
+
+  -- at the edge a cell is on the border
+  pub edge-border : (w : Way) → InGrid r c → room r w c ≡ 0 → Border r c
+  edge-border up-k h e = last-k (omega (arith, h .k-in))
+  edge-border down-k h e = first-k e
+  edge-border up-j h e = last-j (omega (arith, h .j-in))
+  edge-border down-j h e = first-j e
+  edge-border up-i h e = last-i (omega (arith, h .i-in))
+  edge-border down-i h e = first-i e
 
   -- the way back has room, and leads back
   pub counter-room : (w : Way) → InGrid r c → 0 < room r w c → 0 < room r (counter w) (beside w c)

@@ -2,3 +2,4 @@ pub mod Ways
 pub mod Tests
 pub mod Weights
 pub mod Going
+pub mod Rays

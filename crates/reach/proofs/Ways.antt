@@ -1,4 +1,5 @@
 -- The ways by number, and what a look finds. Assumes nothing.
+use mathlib.Core.Bool.{true, false}
 use mathlib.Core.Path.{_≡_, refl, sym, ap, subst, _∙_}
 use mathlib.Core.List.{List}
 use Prim.Native.Nat.{ℕ, zero, suc, _+_, _*_, _-_, _<_, _≤_}
@@ -13,6 +14,7 @@ use Rattle.grid.proofs.Cells.{num-lt, terms, cells-max}
 use Rattle.grid.proofs.Ways.{adds, takes-off, beside-num}
 use Rattle.reach.specs.declared.Seen.{Seen}
 use Rattle.reach.specs.Walk.{wayOf, Sees}
+use Rattle.reach.proofs.Tests.{true-false}
 
 -- the number of a way
 abbrev pub numberOf : Way → ℕ
@@ -88,18 +90,21 @@ takes-less r c down-i h n e = omega (arith, h, e)
 -- ---- looks
 
 module _ (r : Axes) (l : List ℕ) (c : Cell) (d : ℕ) where
-  pub sees-there : (m : ℕ) → 0 < room r (wayOf d) c → m ≡ num r (beside (wayOf d) c) → Sees r l c d (record { label = getD l m 0; n = m })
-  sees-there m h e = record { label = λ _. ap (λ (x : ℕ). getD l x 0) e; number = λ _. e; edge = λ z. absurd (never (room r (wayOf d) c) h z) }
+  pub sees-there : (m : ℕ) → 0 < room r (wayOf d) c → m ≡ num r (beside (wayOf d) c) → Sees r l c d (record { label = getD l m 0; n = m; edge = false })
+  sees-there m h e = record { label = λ _. ap (λ (x : ℕ). getD l x 0) e; number = λ _. e; none = λ z. absurd (never (room r (wayOf d) c) h z); edge = λ z. absurd (true-false z refl) }
     where
       never : (n : ℕ) → 0 < n → n ≡ 0 → ⊥
       never n h z = omega arith
 
-  pub sees-edge : (n : ℕ) → (0 < room r (wayOf d) c → ⊥) → Sees r l c d (record { label = 9; n = n })
-  sees-edge n z = record { label = λ h. absurd (z h); number = λ h. absurd (z h); edge = λ _. refl }
+  pub sees-edge : (n : ℕ) → (0 < room r (wayOf d) c → ⊥) → Sees r l c d (record { label = 9; n = n; edge = true })
+  sees-edge n z = record { label = λ h. absurd (z h); number = λ h. absurd (z h); none = λ _. refl; edge = λ _. nothing (room r (wayOf d) c) z }
+    where
+      nothing : (n : ℕ) → (0 < n → ⊥) → n ≡ 0
+      nothing n z = omega arith
 
   -- a label that is none of the edge's is a neighbour's
   pub seen-room : (a : Seen) → Sees r l c d a → (a .label ≡ 9 → ⊥) → 0 < room r (wayOf d) c
-  seen-room a s z = some (room r (wayOf d) c) (λ e. z (s .edge e))
+  seen-room a s z = some (room r (wayOf d) c) (λ e. z (s .none e))
     where
       some : (n : ℕ) → (n ≡ 0 → ⊥) → 0 < n
       some n z = omega arith

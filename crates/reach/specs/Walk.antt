@@ -27,7 +27,8 @@ wayOf (suc (suc (suc (suc (suc d))))) = down-k
 pub record Sees (r : Axes) (l : List ℕ) (c : Cell) (d : ℕ) (a : Seen) : Type 0 where
   pub label : 0 < room r (wayOf d) c → a .label ≡ at r l (beside (wayOf d) c)
   pub number : 0 < room r (wayOf d) c → a .n ≡ num r (beside (wayOf d) c)
-  pub edge : room r (wayOf d) c ≡ 0 → a .label ≡ 9
+  pub none : room r (wayOf d) c ≡ 0 → a .label ≡ 9
+  pub edge : a .edge ≡ true → room r (wayOf d) c ≡ 0
 
 -- a label under 6 that is not the walk's own
 abbrev pub Marked : ℕ → ℕ → Type 0
@@ -36,6 +37,10 @@ Marked done v = (v < 6) × (v ≡ done → ⊥)
 -- an exit: a border cell, or one with a neighbour that is so marked
 abbrev pub Exit : Axes → ℕ → List ℕ → Cell → Type 0
 Exit r done l c = Border r c ⊎ ((d : Cell) × InGrid r d × Face c d × Marked done (at r l d))
+
+-- cells 6 lead from c to an exit, where every label under 6 is a mark
+abbrev pub Leads : Axes → List ℕ → Cell → Type 0
+Leads r l c = (d : Cell) × Through r l 6 c d × Exit r 6 l d
 
 -- what a walk asks of the labels: they fit the grid; what it passes and what it sets are two labels under 9; s does not have the one it sets; and where it stops at exits, neither what it passes nor s can be taken for a mark
 pub record Ready (r : Axes) (pass done : ℕ) (stop : Bool) (l : List ℕ) (s : Cell) : Type 0 where
