@@ -4,14 +4,12 @@ use mathlib.Core.Path.{_≡_, sym, ap, subst, _∙_}
 use mathlib.Core.List.{List, [], _∷_, map}
 use Prim.Native.Nat.{ℕ}
 use native.Mathlib.Omega.{arith}
-use lib.ListN.{length}
 use Rattle.grid.specs.declared.Axes.{Axes}
 use Rattle.grid.specs.declared.Cell.{Cell}
-use Rattle.grid.specs.Answers.{Outcome, refuses, Ends, Finds, Gives}
-use Rattle.grid.specs.Checks.{gridFault, takes, labelsFault}
+use Rattle.grid.specs.Answers.{Outcome, refuses, Ends, Gives}
 use Rattle.grid.specs.Flood.{NoSurface, Aired}
 use Rattle.grid.specs.Grid.{InGrid, at}
-use Rattle.grid.proofs.Checks.{finds-then, finds-first, finds-grid, ends-one, ends-same, ends-gives}
+use Rattle.grid.proofs.Checks.{finds-map, ends-one, ends-same, ends-gives}
 use Rattle.grid.proofs.Floods.{surface-means, outside-means, inside-means}
 use Rattle.spread.proofs.Runs.{run-one}
 use Rattle.fill.specs.declared.Counts.{Counts}
@@ -25,14 +23,8 @@ use Rattle.fill.proofs.Swings.{alternate-one}
 
 -- ---- which numbers fill gives: 8, 9 and 11
 
-fill-finds : (r : Axes) (l : List ℕ) → Finds (8 ∷ 9 ∷ 11 ∷ []) (fillFault r l)
-fill-finds r l = finds-then ns (gridFault r (length l)) (labelsFault marks l) (finds-grid ns r (length l) tt tt) (finds-first ns 11 (λ n. n) (takes marks) l tt)
-  where
-    ns : List ℕ
-    ns = 8 ∷ 9 ∷ 11 ∷ []
-
 pub fill-numbers : (mode : Mode) (r : Axes) (l m : List ℕ) (o : Outcome Counts) → Ends (fillFault r l) l (Fills mode r l) o m → Gives (8 ∷ 9 ∷ 11 ∷ []) o
-fill-numbers mode r l m o e = ends-gives _ (fillFault r l) l (Fills mode r l) o m (fill-finds r l) e
+fill-numbers mode r l m o e = ends-gives _ (fillFault r l) l (Fills mode r l) o m (finds-map _ marks r l tt tt tt) e
 
 -- a refusal leaves every label
 pub refused-same : (mode : Mode) (r : Axes) (l m : List ℕ) (n place : ℕ) → Ends (fillFault r l) l (Fills mode r l) (refuses n place) m → m ≡ l

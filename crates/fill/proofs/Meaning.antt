@@ -11,15 +11,13 @@ use lib.Seq.{ext-getD}
 use borrow.Author.Tests.{eqb-true, eq-eqb, ne-eqb, le-leb, lt-leb}
 use Rattle.grid.specs.declared.Axes.{Axes}
 use Rattle.grid.specs.declared.Cell.{Cell}
-use Rattle.grid.specs.declared.Checked.the-variants.{Fine}
 use Rattle.grid.specs.declared.LabelSet.{LabelSet}
-use Rattle.grid.specs.Checks.{takes, labelsFault}
+use Rattle.grid.specs.Checks.{takes}
 use Rattle.grid.specs.Counts.{countOf}
 use Rattle.grid.specs.Flood.{Aired, Floods, surface, outside, inside, Flooded}
 use Rattle.grid.specs.Grid.{InGrid, num, cells, cellNumbered, at, Border, onBorder}
 use Rattle.grid.specs.Paths.{starts, steps}
 use Rattle.grid.proofs.Cells.{not-both, num-lt, number-of-cell, cell-in, labels-length, labels-at, border-test}
-use Rattle.grid.proofs.Checks.{first-fine}
 use Rattle.grid.proofs.First.{every-all}
 use Rattle.grid.proofs.Counts.{count-most, count-others, count-map, count-alike, count-none}
 use Rattle.spread.specs.Spread.{Plain, Reached, Spread}
@@ -50,8 +48,8 @@ takes-marks (suc (suc (suc (suc (suc (suc (suc zero))))))) h = absurd (true≢fa
 takes-marks (suc (suc (suc (suc (suc (suc (suc (suc zero)))))))) h = inr refl
 takes-marks (suc (suc (suc (suc (suc (suc (suc (suc (suc v))))))))) h = absurd (true≢false (sym h))
 
-pub only-marks : (l : List ℕ) → labelsFault marks l ≡ Fine → Marks l
-only-marks l h n g = takes-marks (getD l n 0) (first-fine 11 (λ n. n) (takes marks) 0 l .0 h n g)
+pub only-marks : (l : List ℕ) → ((n : ℕ) → n < length l → takes marks (getD l n 0) ≡ true) → Marks l
+only-marks l h n g = takes-marks (getD l n 0) (h n g)
 
 -- two rules that agree on 0 and 8
 pub map-marks : (f g : ℕ → ℕ) (l : List ℕ) → Marks l → f 0 ≡ g 0 → f 8 ≡ g 8 → map f l ≡ map g l

@@ -10,8 +10,8 @@ use Rattle.grid.specs.declared.Axes.{Axes}
 use Rattle.grid.specs.declared.Cell.{Cell}
 use Rattle.grid.specs.declared.Checked.{Checked}
 use Rattle.grid.specs.declared.LabelSet.{LabelSet}
-use Rattle.grid.specs.Answers.{Outcome, answers, refuses, _andThen_}
-use Rattle.grid.specs.Checks.{gridFault, takes, labelsFault}
+use Rattle.grid.specs.Answers.{Outcome, answers, refuses}
+use Rattle.grid.specs.Checks.{takes, mapFault}
 use Rattle.grid.specs.Counts.{count, countOf}
 use Rattle.grid.specs.First.{every}
 use Rattle.grid.specs.Flood.{Flooded}
@@ -33,7 +33,7 @@ abbrev pub marks : LabelSet
 marks = record { l0 = true; l1 = false; l2 = false; l3 = false; l4 = false; l5 = false; l6 = false; l7 = false; l8 = true }
 
 abbrev pub fillFault : Axes → List ℕ → Checked
-fillFault r l = gridFault r (length l) andThen labelsFault marks l
+fillFault = mapFault marks
 
 -- "the cells left, which is how many labels are 0 at the end". Nothing else says what is left
 abbrev pub isLeft : ℕ → Bool

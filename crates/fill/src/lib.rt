@@ -251,20 +251,12 @@ fn taken_marks() -> LabelSet
     }
 }
 
-fn fill_fault(labels: &[u8], r: Axes) -> Checked
-    ensures { λ f. ⌜ f ≡ fillFault r (now (labels .entry)) ⌝ }
-{
-    let grid_part = grid::grid_fault(r, labels.len());
-    let label_part = grid::labels_fault(labels, taken_marks());
-    grid::and_then(grid_part, label_part)
-}
-
 // Fills a map whose labels are 0 and 8, or refuses and writes nothing.
 pub fn fill(labels: &mut [u8], r: Axes, mode: Mode) -> Filling
     ensures { λ f. ⌜ Ends (fillFault r (now (labels .entry))) (now (labels .entry)) (Fills mode r (now (labels .entry))) (outcome f) (now (labels .exit)) ⌝ }
     ensures { λ f. ⌜ Ends (fillFault r (now (labels .entry))) (now (labels .entry)) (Means mode r (now (labels .entry))) (outcome f) (now (labels .exit)) ⌝ }
 {
-    match fill_fault(labels, r) {
+    match grid::map_fault(labels, r, taken_marks()) {
         Checked::Fault(f) => Filling::Refused(f),
         Checked::Fine => Filling::Filled(fill_by(labels, r, mode)),
     }

@@ -16,7 +16,7 @@ use Rattle.grid.specs.declared.Refusal.{Refusal}
 use Rattle.grid.specs.Answers.{Outcome, answers, refuses, faultAt, faultIf, _andThen_, unless, Ends, isOneOf, Finds, Gives}
 use Rattle.grid.specs.First.{FirstAt, firstNot}
 use Rattle.grid.specs.Grid.{Axis, Sound, cells, Sheet}
-use Rattle.grid.specs.Checks.{firstFault, badAxis, axesFault, bufferFault, gridFault, takes}
+use Rattle.grid.specs.Checks.{firstFault, badAxis, axesFault, bufferFault, gridFault, takes, labelsFault, mapFault}
 use Rattle.grid.proofs.First.{before-first, at-first, first-is, first-one}
 
 -- ---- a row of checks
@@ -217,3 +217,20 @@ pub ends-gives : {A B : Type 0} (ns : List ℕ) (f : Checked) (before : B) (Allo
 ends-gives ns (Fault f) before Allows o after h e = subst (Gives ns) (sym (e .0)) h
 ends-gives ns Fine before Allows (answers a) after h e = tt
 ends-gives ns Fine before Allows (refuses n k) after h e = absurd e
+
+-- ---- a map's own checks
+
+-- the map fits its axes, and has no other labels
+pub map-fine : (s : LabelSet) (r : Axes) (l : List ℕ) → mapFault s r l ≡ Fine → Sheet r l × ((n : ℕ) → n < length l → takes s (getD l n 0) ≡ true)
+map-fine s r l h =
+    let e = both-fine (gridFault r (length l)) (labelsFault s l) h in
+    (sheet-fine r l (e .0), first-fine 11 (λ n. n) (takes s) 0 l .0 (e .1))
+
+pub fine-map : (s : LabelSet) (r : Axes) (l : List ℕ) → Sheet r l → ((n : ℕ) → n < length l → takes s (getD l n 0) ≡ true) → mapFault s r l ≡ Fine
+fine-map s r l h a = fine-then (fine-then (axes-fine r .1 (h .sound)) (buffer-fine r (length l) .1 (h .size))) (first-fine 11 (λ n. n) (takes s) 0 l .1 a)
+  where
+    fine-then : {a b : Checked} → a ≡ Fine → b ≡ Fine → (a andThen b) ≡ Fine
+    fine-then p q t = p t andThen q t
+
+pub finds-map : (ns : List ℕ) (s : LabelSet) (r : Axes) (l : List ℕ) → T (isOneOf 8 ns) → T (isOneOf 9 ns) → T (isOneOf 11 ns) → Finds ns (mapFault s r l)
+finds-map ns s r l a b c = finds-then ns (gridFault r (length l)) (labelsFault s l) (finds-grid ns r (length l) a b) (finds-first ns 11 (λ n. n) (takes s) l c)

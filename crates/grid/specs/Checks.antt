@@ -37,3 +37,7 @@ takes s v = getD (s .l0 ∷ s .l1 ∷ s .l2 ∷ s .l3 ∷ s .l4 ∷ s .l5 ∷ s 
 -- "11: a label the call does not take"; the place is the label's cell number
 abbrev pub labelsFault : LabelSet → List ℕ → Checked
 labelsFault s l = firstFault 11 (λ n. n) (takes s) l
+
+-- the three of a map, in the order of their numbers
+abbrev pub mapFault : LabelSet → Axes → List ℕ → Checked
+mapFault s r l = gridFault r (length l) andThen labelsFault s l

@@ -6,7 +6,7 @@ ghost use Rattle.grid.specs.Answers.{faultAt, _andThen_};
 ghost use Rattle.grid.specs.First.{firstNot, every};
 ghost use Rattle.grid.specs.Grid.{num, Sound, InGrid, onBorder};
 ghost use Rattle.grid.specs.Counts.{countOf};
-ghost use Rattle.grid.specs.Checks.{badAxis, axesFault, gridFault, takes, labelsFault};
+ghost use Rattle.grid.specs.Checks.{badAxis, axesFault, gridFault, takes, labelsFault, mapFault};
 
 // How many cells the grid has along i, j and k.
 pub struct Axes {
@@ -172,6 +172,15 @@ pub fn labels_fault(labels: &[u8], set: LabelSet) -> Checked
         return Checked::Fine;
     }
     fault(11, first_not_taken(labels, set))
+}
+
+// Refusals 8, 9 and 11 of a map.
+pub fn map_fault(labels: &[u8], r: Axes, set: LabelSet) -> Checked
+    ensures { λ f. ⌜ f ≡ mapFault set r (now (labels .entry)) ⌝ }
+{
+    let grid_part = grid_fault(r, labels.len());
+    let label_part = labels_fault(labels, set);
+    and_then(grid_part, label_part)
 }
 
 fn one_if(same: bool) -> usize

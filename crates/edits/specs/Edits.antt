@@ -1,0 +1,96 @@
+-- 01, Edits: opening and closing a cell of any grid of labels 6, 7 and 8. Definitions only.
+use mathlib.Core.Bool.{Bool, true, false, cond, not, _&&_}
+use mathlib.Core.Logic.{_⊎_}
+use mathlib.Core.Path.{_≡_}
+use mathlib.Core.List.{List, [], _∷_}
+use Prim.Native.Nat.{ℕ, _+_}
+use lib.Dec.{eqb, ltb}
+use lib.ListN.{length, set}
+use Rattle.grid.specs.declared.Axes.{Axes}
+use Rattle.grid.specs.declared.Cell.{Cell}
+use Rattle.grid.specs.declared.Checked.{Checked}
+use Rattle.grid.specs.declared.Checked.the-variants.{Fine}
+use Rattle.grid.specs.declared.LabelSet.{LabelSet}
+use Rattle.grid.specs.Answers.{Outcome, answers, refuses, faultIf, _andThen_}
+use Rattle.grid.specs.Checks.{gridFault, labelsFault}
+use Rattle.grid.specs.Grid.{InGrid, num, at, Face, Border}
+use Rattle.grid.specs.Paths.{Joined, Through}
+use Rattle.edits.specs.declared.Editing.{Editing}
+use Rattle.edits.specs.declared.Editing.the-variants.{Changed, Refused}
+
+-- 01's number and values for each case of `Editing`: "Each reports how many labels changed"
+abbrev pub outcome : Editing → Outcome ℕ
+outcome (Changed n) = answers n
+outcome (Refused f) = refuses (f .number) (f .place)
+
+pub data Edit : Type 0 where
+  opening : Cell → Edit
+  closing : Cell → Edit
+
+-- ---- refusals
+
+-- "Labels 6, 7, 8 only, else 11", after 8 and 9
+abbrev pub mapLabels : LabelSet
+mapLabels = record { l0 = false; l1 = false; l2 = false; l3 = false; l4 = false; l5 = false; l6 = true; l7 = true; l8 = true }
+
+abbrev pub mapFault : Axes → List ℕ → Checked
+mapFault r l = gridFault r (length l) andThen labelsFault mapLabels l
+
+-- "12: a cell [...] outside its range"
+abbrev pub inGrid : Axes → Cell → Bool
+inGrid r c = (ltb (c .i) (r .r0) && ltb (c .j) (r .r1)) && ltb (c .k) (r .r2)
+
+-- "13: opening a cell that is no surface, or closing one that is"; `surface` is whether the cell must be one
+abbrev pub wrongKind : Bool → ℕ → Bool
+wrongKind true label = not (eqb label 8)
+wrongKind false label = eqb label 8
+
+abbrev pub cellFault : Axes → List ℕ → Cell → Bool → Checked
+cellFault r l c surface = faultIf (not (inGrid r c)) 12 0 (faultIf (wrongKind surface (at r l c)) 13 0 Fine)
+
+abbrev pub editFault : Axes → List ℕ → Edit → Checked
+editFault r l (opening c) = mapFault r l andThen cellFault r l c true
+editFault r l (closing c) = mapFault r l andThen cellFault r l c false
+
+-- ---- what becomes of the labels
+
+-- "c is on the border or has a face neighbour 6"
+abbrev pub MeetsAir : Axes → List ℕ → Cell → Type 0
+MeetsAir r l c = Border r c ⊎ ((d : Cell) × InGrid r d × Face c d × (at r l d ≡ 6))
+
+-- the label v of cell d after c was opened. "Open c: if c is on the border or has a face neighbour 6, then c and every 7 reached from it through cells 7 become 6. Otherwise c becomes 7."
+pub data Opens (r : Axes) (l : List ℕ) (c d : Cell) (v : ℕ) : Type 0 where
+  aired : MeetsAir r l c → Through r l 7 c d → v ≡ 6 → Opens r l c d v
+  unreached : MeetsAir r l c → (Through r l 7 c d → ⊥) → v ≡ at r l d → Opens r l c d v
+  alone : (MeetsAir r l c → ⊥) → d ≡ c → v ≡ 7 → Opens r l c d v
+  other : (MeetsAir r l c → ⊥) → (d ≡ c → ⊥) → v ≡ at r l d → Opens r l c d v
+
+-- "c becomes 8"
+abbrev pub lidded : Axes → List ℕ → Cell → List ℕ
+lidded r l c = set l (num r c) 8
+
+-- a "path of cells 6 to a border cell"; a border cell 6 is its own path
+abbrev pub HasWay : Axes → List ℕ → Cell → Type 0
+HasWay r l = Joined r (λ d. Border r d × (at r l d ≡ 6)) (λ d. at r l d ≡ 6)
+
+-- the label v of cell d after c was closed. "Close c: c becomes 8. If it was 6, each other cell 6 that was joined to c through cells 6 and now has no path of cells 6 to a border cell becomes 7."
+pub data Closes (r : Axes) (l : List ℕ) (c d : Cell) (v : ℕ) : Type 0 where
+  lid : d ≡ c → v ≡ 8 → Closes r l c d v
+  sealed : (d ≡ c → ⊥) → at r l c ≡ 6 → Through r l 6 c d → (HasWay r (lidded r l c) d → ⊥) → v ≡ 7 → Closes r l c d v
+  stays : (d ≡ c → ⊥) → (at r l c ≡ 6 → Through r l 6 c d → HasWay r (lidded r l c) d) → v ≡ at r l d → Closes r l c d v
+
+abbrev pub Becomes : Axes → List ℕ → Edit → Cell → ℕ → Type 0
+Becomes r l (opening c) = Opens r l c
+Becomes r l (closing c) = Closes r l c
+
+-- "how many labels changed"
+unfoldable pub changed : List ℕ → List ℕ → ℕ
+changed [] after = 0
+changed (x ∷ before) [] = 0
+changed (x ∷ before) (y ∷ after) = cond (eqb x y) 0 1 + changed before after
+
+-- the whole of an edit that is not refused: every label, and the answer
+pub record Edited (r : Axes) (before : List ℕ) (e : Edit) (n : ℕ) (after : List ℕ) : Type 0 where
+  pub size : length after ≡ length before
+  pub each : (d : Cell) → InGrid r d → Becomes r before e d (at r after d)
+  pub counted : n ≡ changed before after

@@ -1,0 +1,241 @@
+// Opening and closing a cell of a map: which labels change, and how many.
+ghost use mathlib.Core.Path.{_≡_};
+ghost use mathlib.Core.Bool.{true, false, not};
+ghost use Prim.Native.Nat.{_+_, _<_, _≤_};
+ghost use lib.Dec.{eqb};
+ghost use lib.ListN.{length};
+ghost use Rattle.grid.specs.Answers.{Ends, _andThen_};
+ghost use Rattle.grid.specs.Flood.{Flooded};
+ghost use Rattle.grid.specs.Grid.{num, InGrid, at, Sheet};
+ghost use Rattle.edits.specs.Edits.{opening, closing, outcome, mapLabels, mapFault, inGrid, wrongKind, cellFault, editFault, MeetsAir, Edited};
+ghost use Rattle.edits.specs.Closing.{Map, Seals, Settles, SettlesBelow, Restores, RestoresBelow};
+use grid::Axes;
+use grid::Cell;
+use grid::Checked;
+use grid::LabelSet;
+use grid::Refusal;
+
+// What an edit answers: how many labels changed; the edit itself is in the labels.
+pub enum Editing {
+    Changed(usize),
+    Refused(Refusal),
+}
+
+// ---- opening
+
+// Whether c, whose number is n, is on the border or has a face neighbour 6.
+fn meets_air(l: &[u8], r: Axes, c: Cell, n: usize) -> bool
+    requires { ⌜ Sheet r (now l) ⌝ }
+    requires { ⌜ InGrid r c × (n ≡ num r c) ⌝ }
+    ensures { λ b. ⌜ (b ≡ true → MeetsAir r (now (l .entry)) c) × (b ≡ false → MeetsAir r (now (l .entry)) c → ⊥) ⌝ }
+{
+    if grid::on_border(r, c) {
+        return true;
+    }
+    let mut d = 0u8;
+    while d < 6 {
+        let a = reach::look(l, r, c, n, d);
+        if a.label == 6 {
+            return true;
+        }
+        d += 1;
+    }
+    false
+}
+
+fn open_surface(l: &mut [u8], r: Axes, c: Cell) -> usize
+    requires { ⌜ Sheet r (now l) ⌝ }
+    requires { ⌜ InGrid r c × (at r (now l) c ≡ 8) ⌝ }
+    ensures { λ n. ⌜ Edited r (now (l .entry)) (opening c) n (now (l .exit)) ⌝ }
+{
+    let n = grid::number(r, c);
+    if meets_air(l, r, c, n) {
+        let w = reach::walk(l, r, c, 7, 6, false);
+        return w.count;
+    }
+    l[n] = 7;
+    1
+}
+
+// ---- closing: the neighbours of c, whose number is n, are settled one after the other. One that has a way
+// to the border takes the number of its way as its label, and so does all that the walk to the border met;
+// later walks end there, so that no cell is walked over twice. When all are settled these labels are 6 again.
+
+// What a walk from q reaches takes the label d; where the walk met no exit it is sealed off, and becomes 7.
+fn seal(l: &mut [u8], r: Axes, q: Cell, d: u8) -> usize
+    requires { ⌜ Sheet r (now l) ⌝ }
+    requires { ⌜ InGrid r q × (at r (now l) q ≡ 6) ⌝ }
+    requires { ⌜ d < 6 ⌝ }
+    ensures { λ k. ⌜ Seals r (now (l .entry)) q d (now (l .exit)) k ⌝ }
+{
+    let w = reach::walk(l, r, q, 6, d, true);
+    if w.met {
+        return 0;
+    }
+    let v = reach::walk(l, r, q, d, 7, false);
+    v.count
+}
+
+// The neighbour the way d, if it is 6: where a look finds no way to the border, a walk must tell, if it may.
+fn settle(l: &mut [u8], r: Axes, c: Cell, n: usize, d: u8, walks: bool) -> usize
+    requires { ⌜ Sheet r (now l) ⌝ }
+    requires { ⌜ InGrid r c × (n ≡ num r c) ⌝ }
+    requires { ⌜ d < 6 ⌝ }
+    ensures { λ k. ⌜ Settles r c d walks (now (l .entry)) (now (l .exit)) k ⌝ }
+{
+    let a = reach::look(l, r, c, n, d);
+    if a.label != 6 {
+        return 0;
+    }
+    let q = reach::neighbour(r, c, d);
+    let m = a.n;
+    if reach::finds_way(l, r, q, m) {
+        l[m] = d;
+        return 0;
+    }
+    if walks {
+        return seal(l, r, q, d);
+    }
+    0
+}
+
+fn settle_all(l: &mut [u8], r: Axes, c: Cell, n: usize, walks: bool) -> usize
+    requires { ⌜ Sheet r (now l) ⌝ }
+    requires { ⌜ InGrid r c × (n ≡ num r c) ⌝ }
+    ensures { λ k. ⌜ SettlesBelow 6 r c walks (now (l .entry)) (now (l .exit)) k ⌝ }
+{
+    let mut sealed = 0usize;
+    let mut d = 0u8;
+    while d < 6 {
+        sealed += settle(l, r, c, n, d, walks);
+        d += 1;
+    }
+    sealed
+}
+
+fn restore(l: &mut [u8], r: Axes, c: Cell, n: usize, d: u8)
+    requires { ⌜ Sheet r (now l) ⌝ }
+    requires { ⌜ InGrid r c × (n ≡ num r c) ⌝ }
+    requires { ⌜ d < 6 ⌝ }
+    ensures { λ _. ⌜ Restores r c d (now (l .entry)) (now (l .exit)) ⌝ }
+{
+    let a = reach::look(l, r, c, n, d);
+    if a.label == d {
+        let q = reach::neighbour(r, c, d);
+        reach::walk(l, r, q, d, 6, false);
+    }
+}
+
+fn restore_all(l: &mut [u8], r: Axes, c: Cell, n: usize)
+    requires { ⌜ Sheet r (now l) ⌝ }
+    requires { ⌜ InGrid r c × (n ≡ num r c) ⌝ }
+    ensures { λ _. ⌜ RestoresBelow 6 r c (now (l .entry)) (now (l .exit)) ⌝ }
+{
+    let mut d = 0u8;
+    while d < 6 {
+        restore(l, r, c, n, d);
+        d += 1;
+    }
+}
+
+fn close_open(l: &mut [u8], r: Axes, c: Cell) -> usize
+    requires { ⌜ Sheet r (now l) × Map r (now l) ⌝ }
+    requires { ⌜ InGrid r c × (at r (now l) c ≡ 8 → ⊥) ⌝ }
+    ensures { λ n. ⌜ Edited r (now (l .entry)) (closing c) n (now (l .exit)) ⌝ }
+{
+    let n = grid::number(r, c);
+    let v = l[n];
+    l[n] = 8;
+    if v != 6 {
+        return 1;
+    }
+    settle_all(l, r, c, n, false);
+    let sealed = settle_all(l, r, c, n, true);
+    restore_all(l, r, c, n);
+    sealed + 1
+}
+
+// ---- the calls
+
+fn taken_labels() -> LabelSet
+    ensures { λ s. ⌜ s ≡ mapLabels ⌝ }
+{
+    LabelSet {
+        l0: false,
+        l1: false,
+        l2: false,
+        l3: false,
+        l4: false,
+        l5: false,
+        l6: true,
+        l7: true,
+        l8: true,
+    }
+}
+
+fn map_fault(labels: &[u8], r: Axes) -> Checked
+    ensures { λ f. ⌜ f ≡ mapFault r (now (labels .entry)) ⌝ }
+{
+    let grid_part = grid::grid_fault(r, labels.len());
+    let label_part = grid::labels_fault(labels, taken_labels());
+    grid::and_then(grid_part, label_part)
+}
+
+fn in_grid(r: Axes, c: Cell) -> bool
+    ensures { λ b. ⌜ b ≡ inGrid r c ⌝ }
+{
+    (c.i < r.r0) & (c.j < r.r1) & (c.k < r.r2)
+}
+
+// `surface` is whether the cell must be one.
+fn wrong_kind(surface: bool, label: u8) -> bool
+    ensures { λ b. ⌜ b ≡ wrongKind surface label ⌝ }
+{
+    if surface { label != 8 } else { label == 8 }
+}
+
+// Refusals 12 and 13, where the map itself has none.
+fn cell_fault(labels: &[u8], r: Axes, c: Cell, surface: bool) -> Checked
+    requires { ⌜ Sheet r (now labels) ⌝ }
+    ensures { λ f. ⌜ f ≡ cellFault r (now (labels .entry)) c surface ⌝ }
+{
+    if in_grid(r, c) {
+        let n = grid::number(r, c);
+        if wrong_kind(surface, labels[n]) {
+            return grid::fault(13, 0);
+        }
+        return Checked::Fine;
+    }
+    grid::fault(12, 0)
+}
+
+fn edit_fault(labels: &[u8], r: Axes, c: Cell, surface: bool) -> Checked
+    ensures { λ f. ⌜ f ≡ (mapFault r (now (labels .entry)) andThen cellFault r (now (labels .entry)) c surface) ⌝ }
+{
+    match map_fault(labels, r) {
+        Checked::Fault(f) => Checked::Fault(f),
+        Checked::Fine => cell_fault(labels, r, c, surface),
+    }
+}
+
+// Opens a surface cell, or refuses and writes nothing.
+pub fn open_cell(labels: &mut [u8], r: Axes, c: Cell) -> Editing
+    ensures { λ a. ⌜ Ends (editFault r (now (labels .entry)) (opening c)) (now (labels .entry)) (Edited r (now (labels .entry)) (opening c)) (outcome a) (now (labels .exit)) ⌝ }
+    ensures { λ a. ⌜ (Flooded r (now (labels .entry)) (now (labels .entry)) → Flooded r (now (labels .exit)) (now (labels .exit))) ⌝ }
+{
+    match edit_fault(labels, r, c, true) {
+        Checked::Fault(f) => Editing::Refused(f),
+        Checked::Fine => Editing::Changed(open_surface(labels, r, c)),
+    }
+}
+
+// Closes a cell that is no surface, or refuses and writes nothing.
+pub fn close_cell(labels: &mut [u8], r: Axes, c: Cell) -> Editing
+    ensures { λ a. ⌜ Ends (editFault r (now (labels .entry)) (closing c)) (now (labels .entry)) (Edited r (now (labels .entry)) (closing c)) (outcome a) (now (labels .exit)) ⌝ }
+    ensures { λ a. ⌜ (Flooded r (now (labels .entry)) (now (labels .entry)) → Flooded r (now (labels .exit)) (now (labels .exit))) ⌝ }
+{
+    match edit_fault(labels, r, c, false) {
+        Checked::Fault(f) => Editing::Refused(f),
+        Checked::Fine => Editing::Changed(close_open(labels, r, c)),
+    }
+}
