@@ -1,2 +1,8 @@
 pub mod Changes
+pub mod Faults
 pub mod Openings
+pub mod Settlings
+pub mod Closings
+pub mod Fresh
+pub mod Calls
+pub mod Laws

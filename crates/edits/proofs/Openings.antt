@@ -1,14 +1,14 @@
 -- An opening: what a walk that does not stop comes to, and the test for air. Assumes nothing.
-use mathlib.Core.Bool.{Bool, true, false}
+use mathlib.Core.Bool.{false}
 use mathlib.Core.Logic.{_⊎_, inl, inr, ⊎-elim}
 use mathlib.Core.Path.{_≡_, refl, sym, ap, subst, _∙_}
 use mathlib.Core.List.{List}
 use Prim.Native.Nat.{ℕ, _+_, _<_, _≤_}
 use native.Mathlib.Omega.{arith}
-use lib.ListN.{length, getD, set, length-set}
+use lib.ListN.{set, length-set}
 use Rattle.grid.specs.declared.Axes.{Axes}
 use Rattle.grid.specs.declared.Cell.{Cell}
-use Rattle.grid.specs.Grid.{num, cells, InGrid, at, Sheet, Border}
+use Rattle.grid.specs.Grid.{num, InGrid, at, Sheet, Border}
 use Rattle.grid.specs.Paths.{Through}
 use Rattle.grid.specs.Ways.{room, beside}
 use Rattle.grid.proofs.Cells.{dec-eq, not-both, num-lt, stored}
@@ -81,9 +81,12 @@ module _ (r : Axes) (l : List ℕ) (c : Cell) where
 
   module _ (n : ℕ) (a : Seen) (s : Sees r l c n a) where
     pub air-more : NoAir r l c n → (a .label ≡ 6 → ⊥) → NoAir r l c (n + 1)
-    air-more k z = (k .0, λ d h. dec-eq d n
-        (λ e. subst (λ (x : ℕ). 0 < room r (wayOf x) c → at r l (beside (wayOf x) c) ≡ 6 → ⊥) (sym e) (λ g q. z (s .label g ∙ q)))
-        (λ y. k .1 d (omega arith)))
+    air-more k z = (
+      k .0,
+      λ d h. dec-eq d n
+          (λ e. subst (λ (x : ℕ). 0 < room r (wayOf x) c → at r l (beside (wayOf x) c) ≡ 6 → ⊥) (sym e) (λ g q. z (s .label g ∙ q)))
+          (λ y. k .1 d (omega arith)),
+    )
 
     pub air-found : InGrid r c → a .label ≡ 6 → MeetsAir r l c
     air-found h q =

@@ -52,12 +52,13 @@ pub data Seals (r : Axes) (before : List ℕ) (q : Cell) (d : ℕ) (after : List
   way-out : (w : Trip) → Walked r 6 d true before q after w → w .met ≡ true → k ≡ 0 → Seals r before q d after k
   cut-off : (w v : Trip) (l : List ℕ) → Walked r 6 d true before q l w → w .met ≡ false → Walked r d 7 false l q after v → k ≡ v .count → Seals r before q d after k
 
--- what settling the ways below t does: k cells more become 7, no label becomes 6, and if walks may be made no such neighbour stays 6
+-- what settling the ways below t does: k cells more become 7, no label becomes 6, and if walks may be made no such neighbour stays 6, else none becomes 7
 pub record SettlesBelow (t : ℕ) (r : Axes) (c : Cell) (walks : Bool) (before after : List ℕ) (k : ℕ) : Type 0 where
   pub size : length after ≡ length before
   pub fewer : (x : Cell) → InGrid r x → at r after x ≡ 6 → at r before x ≡ 6
   pub sides : walks ≡ true → (d : ℕ) → d < t → 0 < room r (wayOf d) c → at r after (beside (wayOf d) c) ≡ 6 → ⊥
   pub few : k ≤ t * 16777216
+  pub still : walks ≡ false → k ≡ 0
   pub keeps : (m : List ℕ) (n : ℕ) → Map r m → Standing r m c before n → Standing r m c after (n + k)
 
 -- and settling one way
@@ -66,6 +67,7 @@ pub record Settles (r : Axes) (c : Cell) (d : ℕ) (walks : Bool) (before after 
   pub fewer : (x : Cell) → InGrid r x → at r after x ≡ 6 → at r before x ≡ 6
   pub side : walks ≡ true → 0 < room r (wayOf d) c → at r after (beside (wayOf d) c) ≡ 6 → ⊥
   pub few : k ≤ 16777216
+  pub still : walks ≡ false → k ≡ 0
   pub keeps : (m : List ℕ) (n : ℕ) → Map r m → Standing r m c before n → Standing r m c after (n + k)
 
 -- the mark d becomes 6

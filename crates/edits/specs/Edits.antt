@@ -12,7 +12,7 @@ use Rattle.grid.specs.declared.Checked.{Checked}
 use Rattle.grid.specs.declared.Checked.the-variants.{Fine}
 use Rattle.grid.specs.declared.LabelSet.{LabelSet}
 use Rattle.grid.specs.Answers.{Outcome, answers, refuses, faultIf, _andThen_}
-use Rattle.grid.specs.Checks.{gridFault, labelsFault}
+use Rattle.grid.specs.Checks.{mapFault}
 use Rattle.grid.specs.Grid.{InGrid, num, at, Face, Border}
 use Rattle.grid.specs.Paths.{Joined, Through}
 use Rattle.edits.specs.declared.Editing.{Editing}
@@ -33,9 +33,6 @@ pub data Edit : Type 0 where
 abbrev pub mapLabels : LabelSet
 mapLabels = record { l0 = false; l1 = false; l2 = false; l3 = false; l4 = false; l5 = false; l6 = true; l7 = true; l8 = true }
 
-abbrev pub mapFault : Axes → List ℕ → Checked
-mapFault r l = gridFault r (length l) andThen labelsFault mapLabels l
-
 -- "12: a cell [...] outside its range"
 abbrev pub inGrid : Axes → Cell → Bool
 inGrid r c = (ltb (c .i) (r .r0) && ltb (c .j) (r .r1)) && ltb (c .k) (r .r2)
@@ -49,8 +46,8 @@ abbrev pub cellFault : Axes → List ℕ → Cell → Bool → Checked
 cellFault r l c surface = faultIf (not (inGrid r c)) 12 0 (faultIf (wrongKind surface (at r l c)) 13 0 Fine)
 
 abbrev pub editFault : Axes → List ℕ → Edit → Checked
-editFault r l (opening c) = mapFault r l andThen cellFault r l c true
-editFault r l (closing c) = mapFault r l andThen cellFault r l c false
+editFault r l (opening c) = mapFault mapLabels r l andThen cellFault r l c true
+editFault r l (closing c) = mapFault mapLabels r l andThen cellFault r l c false
 
 -- ---- what becomes of the labels
 

@@ -5,9 +5,10 @@ ghost use Prim.Native.Nat.{_+_, _<_, _≤_};
 ghost use lib.Dec.{eqb};
 ghost use lib.ListN.{length};
 ghost use Rattle.grid.specs.Answers.{Ends, _andThen_};
+ghost use Rattle.grid.specs.Checks.{mapFault};
 ghost use Rattle.grid.specs.Flood.{Flooded};
 ghost use Rattle.grid.specs.Grid.{num, InGrid, at, Sheet};
-ghost use Rattle.edits.specs.Edits.{opening, closing, outcome, mapLabels, mapFault, inGrid, wrongKind, cellFault, editFault, MeetsAir, Edited};
+ghost use Rattle.edits.specs.Edits.{opening, closing, outcome, mapLabels, inGrid, wrongKind, cellFault, editFault, MeetsAir, Edited};
 ghost use Rattle.edits.specs.Closing.{Map, Seals, Settles, SettlesBelow, Restores, RestoresBelow};
 use grid::Axes;
 use grid::Cell;
@@ -173,14 +174,6 @@ fn taken_labels() -> LabelSet
     }
 }
 
-fn map_fault(labels: &[u8], r: Axes) -> Checked
-    ensures { λ f. ⌜ f ≡ mapFault r (now (labels .entry)) ⌝ }
-{
-    let grid_part = grid::grid_fault(r, labels.len());
-    let label_part = grid::labels_fault(labels, taken_labels());
-    grid::and_then(grid_part, label_part)
-}
-
 fn in_grid(r: Axes, c: Cell) -> bool
     ensures { λ b. ⌜ b ≡ inGrid r c ⌝ }
 {
@@ -210,9 +203,9 @@ fn cell_fault(labels: &[u8], r: Axes, c: Cell, surface: bool) -> Checked
 }
 
 fn edit_fault(labels: &[u8], r: Axes, c: Cell, surface: bool) -> Checked
-    ensures { λ f. ⌜ f ≡ (mapFault r (now (labels .entry)) andThen cellFault r (now (labels .entry)) c surface) ⌝ }
+    ensures { λ f. ⌜ f ≡ (mapFault mapLabels r (now (labels .entry)) andThen cellFault r (now (labels .entry)) c surface) ⌝ }
 {
-    match map_fault(labels, r) {
+    match grid::map_fault(labels, r, taken_labels()) {
         Checked::Fault(f) => Checked::Fault(f),
         Checked::Fine => cell_fault(labels, r, c, surface),
     }

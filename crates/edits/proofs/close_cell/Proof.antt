@@ -1,42 +1,38 @@
+-- `edits::close_cell` meets its contract: the checks, then the edit. Assumes nothing.
+use mathlib.Core.Bool.{false}
+use mathlib.Core.Path.{refl, sym, subst, _∙_}
+use Rattle.grid.specs.declared.Checked.{Checked}
+use Rattle.grid.specs.Answers.{Ends, answers, refuses}
+use Rattle.edits.specs.Edits.{closing, Edited}
+use Rattle.edits.proofs.Faults.{edit-sound, no-surface}
+use Rattle.edits.proofs.Calls.{edited-flooded}
 use borrow.Author.Needs.{needs}
 use Rattle.edits.proofs.close_cell.Statement.{statement}
 use Rattle.edits.proofs.close_cell.Tie as tie
-use Rattle.edits.proofs.close_cell.Reads as reads
-use Rattle.edits.proofs.close_cell.Lts as lts
-use Rattle.edits.proofs.close_open.Reads as close-open-reads
-use Rattle.edits.proofs.edit_fault.Reads as edit-fault-reads
 
--- src/lib.rt:237:11
 edit-fault-requires : tie.Need-edit-fault-requires
 edit-fault-requires c κs = search needs
 
--- src/lib.rt:238:24
 enum-known-f : tie.Need-enum-known-f
 enum-known-f c = search needs
 
--- src/lib.rt:239:54
 enum-told : tie.Need-enum-told
 enum-told c = search needs
 
--- src/lib.rt:239:43
 close-open-requires : tie.Need-close-open-requires
-close-open-requires c κs = ?
+close-open-requires c κs = let a = c .before .before .before .before .before .before .args in let e = sym (c .before .before .before .edit-fault .ensures) ∙ c .before .enum-told .given .1 in (let s = edit-sound (a .r) (a .labels .now) (a .c) false e in ((s .sheet, s .map), (s .within, no-surface _ (s .kind))))
 
--- src/lib.rt:233:1
 same-length : tie.Need-same-length
 same-length c = search needs
 
--- src/lib.rt:233:1
 returns : tie.Need-returns
-returns c = ?
+returns c = let a = c .before .before .before .before .before .before .args in let f = c .before .f .given in (subst (λ (x : Checked). Ends x (a .labels .now) (Edited (a .r) (a .labels .now) (closing (a .c))) (refuses (f .0 .0 .number) (f .0 .0 .place)) (a .labels .now)) (sym (sym (c .before .before .before .edit-fault .ensures) ∙ f .1)) (refl, refl), λ fl. fl)
 
--- src/lib.rt:233:1
 same-length-2 : tie.Need-same-length-2
-same-length-2 c = search needs
+same-length-2 c = c .before .before .close-open .kept .0
 
--- src/lib.rt:233:1
 returns-2 : tie.Need-returns-2
-returns-2 c = ?
+returns-2 c = let a = c .before .before .before .before .before .before .before .before .before .args in let d = c .before .before .close-open in let fine = sym (c .before .before .before .before .before .before .edit-fault .ensures) ∙ c .before .before .before .before .enum-told .given .1 in (subst (λ (x : Checked). Ends x (a .labels .now) (Edited (a .r) (a .labels .now) (closing (a .c))) (answers (d .result)) (d .last .0)) (sym fine) (d .ensures), edited-flooded (a .r) (closing (a .c)) (a .labels .now) (d .result) (d .last .0) fine (d .ensures))
 
 pub close-cell-spec : {M : Type 1} → statement M
 close-cell-spec =

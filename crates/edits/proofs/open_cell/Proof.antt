@@ -1,42 +1,38 @@
+-- `edits::open_cell` meets its contract: the checks, then the edit. Assumes nothing.
+use mathlib.Core.Bool.{true}
+use mathlib.Core.Path.{refl, sym, subst, _∙_}
+use Rattle.grid.specs.declared.Checked.{Checked}
+use Rattle.grid.specs.Answers.{Ends, answers, refuses}
+use Rattle.edits.specs.Edits.{opening, Edited}
+use Rattle.edits.proofs.Faults.{edit-sound, is-surface}
+use Rattle.edits.proofs.Calls.{edited-flooded}
 use borrow.Author.Needs.{needs}
 use Rattle.edits.proofs.open_cell.Statement.{statement}
 use Rattle.edits.proofs.open_cell.Tie as tie
-use Rattle.edits.proofs.open_cell.Reads as reads
-use Rattle.edits.proofs.open_cell.Lts as lts
-use Rattle.edits.proofs.edit_fault.Reads as edit-fault-reads
-use Rattle.edits.proofs.open_surface.Reads as open-surface-reads
 
--- src/lib.rt:226:11
 edit-fault-requires : tie.Need-edit-fault-requires
 edit-fault-requires c κs = search needs
 
--- src/lib.rt:227:24
 enum-known-f : tie.Need-enum-known-f
 enum-known-f c = search needs
 
--- src/lib.rt:228:56
 enum-told : tie.Need-enum-told
 enum-told c = search needs
 
--- src/lib.rt:228:43
 open-surface-requires : tie.Need-open-surface-requires
-open-surface-requires c κs = ?
+open-surface-requires c κs = let a = c .before .before .before .before .before .before .args in let e = sym (c .before .before .before .edit-fault .ensures) ∙ c .before .enum-told .given .1 in (let s = edit-sound (a .r) (a .labels .now) (a .c) true e in (s .sheet, (s .within, is-surface _ (s .kind))))
 
--- src/lib.rt:222:1
 same-length : tie.Need-same-length
 same-length c = search needs
 
--- src/lib.rt:222:1
 returns : tie.Need-returns
-returns c = ?
+returns c = let a = c .before .before .before .before .before .before .args in let f = c .before .f .given in (subst (λ (x : Checked). Ends x (a .labels .now) (Edited (a .r) (a .labels .now) (opening (a .c))) (refuses (f .0 .0 .number) (f .0 .0 .place)) (a .labels .now)) (sym (sym (c .before .before .before .edit-fault .ensures) ∙ f .1)) (refl, refl), λ fl. fl)
 
--- src/lib.rt:222:1
 same-length-2 : tie.Need-same-length-2
-same-length-2 c = search needs
+same-length-2 c = c .before .before .open-surface .kept .0
 
--- src/lib.rt:222:1
 returns-2 : tie.Need-returns-2
-returns-2 c = ?
+returns-2 c = let a = c .before .before .before .before .before .before .before .before .before .args in let d = c .before .before .open-surface in let fine = sym (c .before .before .before .before .before .before .edit-fault .ensures) ∙ c .before .before .before .before .enum-told .given .1 in (subst (λ (x : Checked). Ends x (a .labels .now) (Edited (a .r) (a .labels .now) (opening (a .c))) (answers (d .result)) (d .last .0)) (sym fine) (d .ensures), edited-flooded (a .r) (opening (a .c)) (a .labels .now) (d .result) (d .last .0) fine (d .ensures))
 
 pub open-cell-spec : {M : Type 1} → statement M
 open-cell-spec =

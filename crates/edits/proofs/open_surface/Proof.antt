@@ -1,43 +1,34 @@
-use borrow.Author.Needs.{needs}
+-- `edits::open_surface` meets its contract: a walk, or one cell. Assumes nothing.
+use native.Mathlib.Omega.{arith}
+use lib.ListN.{length-set}
+use Rattle.grid.proofs.Cells.{num-lt}
+use Rattle.edits.proofs.Openings.{open-ready, opened, opened-alone}
 use Rattle.edits.proofs.open_surface.Statement.{statement}
 use Rattle.edits.proofs.open_surface.Tie as tie
-use Rattle.edits.proofs.open_surface.Reads as reads
-use Rattle.edits.proofs.open_surface.Lts as lts
-use Rattle.edits.proofs.meets_air.Reads as meets-air-reads
-use Rattle.grid.proofs.number.Reads as number-reads
-use Rattle.reach.proofs.walk.Reads as walk-reads
 
--- src/lib.rt:51:9
 number-requires : tie.Need-number-requires
-number-requires c κs = search needs
+number-requires c κs = (c .before .pre .1 .0, c .before .pre .0 .sound)
 
--- src/lib.rt:52:8
 meets-air-requires : tie.Need-meets-air-requires
-meets-air-requires c κs = search needs
+meets-air-requires c κs = (c .before .before .before .pre .0, (c .before .before .before .pre .1 .0, c .before .number .ensures))
 
--- src/lib.rt:53:13
 walk-requires : tie.Need-walk-requires
-walk-requires c κs = search needs
+walk-requires c κs = open-ready _ _ _ (c .before .before .before .before .before .before .pre .0) (c .before .before .before .before .before .before .pre .1 .0) (c .before .before .before .before .before .before .pre .1 .1)
 
--- src/lib.rt:54:9
 same-length : tie.Need-same-length
-same-length c = search needs
+same-length c = c .before .before .walk .kept .0
 
--- src/lib.rt:54:9
 returns : tie.Need-returns
-returns c = ?
+returns c = opened _ _ _ (c .before .before .before .before .before .before .before .before .before .pre .0) (c .before .before .before .before .before .before .before .before .before .pre .1 .0) (c .before .before .before .before .before .before .before .before .before .pre .1 .1) _ _ (c .before .before .before .before .before .meets-air .ensures .0 (c .before .before .before .before .if1 .taken)) (c .before .before .walk .ensures)
 
--- src/lib.rt:56:5
 slice-write-l : tie.Need-slice-write-l
-slice-write-l c = ?
+slice-write-l c = omega (arith, c .before .before .before .number .ensures, num-lt (c .before .before .before .before .before .args .r) (c .before .before .before .before .before .args .c) (c .before .before .before .before .before .pre .1 .0), c .before .before .before .before .before .pre .0 .size)
 
--- src/lib.rt:46:1
 same-length-2 : tie.Need-same-length-2
-same-length-2 c = search needs
+same-length-2 c = length-set (c .before .before .before .before .before .args .l .now) (c .before .before .before .number .result) 7
 
--- src/lib.rt:46:1
 returns-2 : tie.Need-returns-2
-returns-2 c = ?
+returns-2 c = opened-alone _ _ _ (c .before .before .before .before .before .pre .0) (c .before .before .before .before .before .pre .1 .0) (c .before .before .before .before .before .pre .1 .1) _ (c .before .before .before .number .ensures) (c .before .meets-air .ensures .1 (c .if1 .left))
 
 pub open-surface-spec : {M : Type 1} → statement M
 open-surface-spec =

@@ -1,42 +1,42 @@
+-- `edits::restore_all` meets its contract: way by way. Assumes nothing.
+use mathlib.Core.Path.{_≡_, subst}
+use Prim.Native.Nat.{ℕ, _-_, _≤_}
+use native.Mathlib.Omega.{arith}
+use Rattle.grid.proofs.Cells.{sheet-kept}
+use Rattle.edits.specs.Closing.{RestoresBelow}
+use Rattle.edits.proofs.Closings.{restores-none, restores-more}
 use Rattle.edits.proofs.restore_all.Statement.{statement}
 use Rattle.edits.proofs.restore_all.Tie as tie
-use Rattle.edits.proofs.restore_all.Reads as reads
-use Rattle.edits.proofs.restore_all.Lts as lts
-use Rattle.edits.proofs.restore.Reads as restore-reads
+
+six : (d : ℕ) → d ≤ 6 → 6 ≤ d → d ≡ 6
+six d g h = omega arith
 
 abbrev Inv-loop : tie.InvT-loop
-Inv-loop l₀ r c n d₀ l d = ?
+Inv-loop l₀ r c n d₀ l d = (d ≤ 6) × RestoresBelow d r c l₀ l
 
 abbrev μ-loop : tie.MeasureT-loop
-μ-loop l₀ r c n d₀ l d = ?
+μ-loop l₀ r c n d₀ l d = 6 - d
 
--- src/lib.rt:135:5
 loop-holds : tie.Need-loop-holds Inv-loop μ-loop
-loop-holds c = ?
+loop-holds c = (omega arith, restores-none _ _ _)
 
--- src/lib.rt:136:9
 restore-requires : tie.Need-restore-requires Inv-loop μ-loop
-restore-requires c κs = ?
+restore-requires c κs = (sheet-kept _ _ _ (c .before .before .loop .inv .1 .size) (c .before .before .before .before .pre .0), (c .before .before .before .before .pre .1, c .before .loop-test .taken))
 
--- src/lib.rt:137:9
 add-d : tie.Need-add-d Inv-loop μ-loop
-add-d c = ?
+add-d c = omega (arith, c .before .before .before .before .loop-test .taken)
 
--- src/lib.rt:135:5
 loop-less : tie.Need-loop-less Inv-loop μ-loop
-loop-less c = ?
+loop-less c = omega (arith, c .before .before .before .before .loop-test .taken)
 
--- src/lib.rt:135:5
 loop-again : tie.Need-loop-again Inv-loop μ-loop
-loop-again c = ?
+loop-again c = (omega (arith, c .before .before .before .before .loop-test .taken), restores-more _ _ _ (c .before .before .before .before .before .before .before .pre .1 .0) _ (c .before .before .before .before .loop-test .taken) _ _ (c .before .before .before .before .before .loop .inv .1) (c .before .before .restore .ensures))
 
--- src/lib.rt:129:1
 same-length : tie.Need-same-length Inv-loop μ-loop
-same-length c = ?
+same-length c = c .before .loop .inv .1 .size
 
--- src/lib.rt:129:1
 returns : tie.Need-returns Inv-loop μ-loop
-returns c = ?
+returns c = let a = c .before .before .before .args in let o = c .before .loop in subst (λ (t : ℕ). RestoresBelow t (a .r) (a .c) (a .l .now) (o .l)) (six (o .d) (o .inv .0) (c .loop-test .left)) (o .inv .1)
 
 pub restore-all-spec : {M : Type 1} → statement M
 restore-all-spec =

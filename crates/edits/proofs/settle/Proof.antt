@@ -1,64 +1,52 @@
+-- `edits::settle` meets its contract: a mark, or what a walk tells. Assumes nothing.
+use Rattle.reach.specs.Walk.{Leads}
+use Rattle.edits.specs.Closing.{Seals}
+use Rattle.edits.proofs.Settlings.{settled-other, settled-later, settled-found, settled-sealed, seen-some, seen-label, seen-in, seen-number, seen-six, seen-place}
+use mathlib.Core.Path.{subst}
+use lib.ListN.{length-set}
+use Rattle.grid.specs.declared.Cell.{Cell}
 use borrow.Author.Needs.{needs}
 use Rattle.edits.proofs.settle.Statement.{statement}
 use Rattle.edits.proofs.settle.Tie as tie
-use Rattle.edits.proofs.settle.Reads as reads
-use Rattle.edits.proofs.settle.Lts as lts
-use Rattle.edits.proofs.seal.Reads as seal-reads
-use Rattle.reach.proofs.finds_way.Reads as finds-way-reads
-use Rattle.reach.proofs.look.Reads as look-reads
-use Rattle.reach.proofs.neighbour.Reads as neighbour-reads
 
--- src/lib.rt:86:9
 look-requires : tie.Need-look-requires
-look-requires c κs = search needs
+look-requires c κs = (c .before .before .pre .0, c .before .before .pre .1 .0)
 
--- src/lib.rt:88:9
 same-length : tie.Need-same-length
 same-length c = search needs
 
--- src/lib.rt:88:9
 returns : tie.Need-returns
-returns c = ?
+returns c = settled-other _ _ (c .before .before .before .before .before .pre .1 .0 .0) _ (c .before .before .before .before .before .pre .1 .1) (c .before .before .before .before .before .args .walks) _ (c .before .before .before .before .before .pre .0) _ (c .before .before .look .ensures) (c .if1 .taken)
 
--- src/lib.rt:90:9
 neighbour-requires : tie.Need-neighbour-requires
-neighbour-requires c κs = ?
+neighbour-requires c κs = (c .before .before .before .before .before .pre .1 .0 .0, seen-some _ _ _ _ _ (c .before .before .before .before .before .pre .1 .0 .0) (c .before .before .look .ensures) (c .if1 .left))
 
--- src/lib.rt:92:8
 finds-way-requires : tie.Need-finds-way-requires
-finds-way-requires c κs = ?
+finds-way-requires c κs = (c .before .before .before .before .before .before .before .pre .0, (seen-in _ _ _ _ _ (c .before .before .before .before .before .before .before .pre .1 .0 .0) (c .before .before .before .before .look .ensures) (c .before .before .if1 .left) _ (c .before .neighbour .ensures), seen-number _ _ _ _ _ (c .before .before .before .before .before .before .before .pre .1 .0 .0) (c .before .before .before .before .look .ensures) (c .before .before .if1 .left) _ (c .before .neighbour .ensures)))
 
--- src/lib.rt:93:9
 slice-write-l : tie.Need-slice-write-l
-slice-write-l c = ?
+slice-write-l c = seen-place _ _ _ _ _ (c .before .before .before .before .before .before .before .before .before .pre .1 .0 .0) (c .before .before .before .before .before .before .look .ensures) (c .before .before .before .before .if1 .left) _ (c .before .before .before .neighbour .ensures) (c .before .before .before .before .before .before .before .before .before .pre .0 .size)
 
--- src/lib.rt:94:9
 same-length-2 : tie.Need-same-length-2
-same-length-2 c = search needs
+same-length-2 c = length-set (c .before .before .before .before .before .before .before .before .before .args .l .now) (c .before .before .before .before .before .before .look .result .n) (c .before .before .before .before .before .before .before .before .before .args .d)
 
--- src/lib.rt:94:9
 returns-2 : tie.Need-returns-2
-returns-2 c = ?
+returns-2 c = let a = c .before .before .before .before .before .before .before .before .before .args in settled-found _ _ (c .before .before .before .before .before .before .before .before .before .pre .1 .0 .0) _ (c .before .before .before .before .before .before .before .before .before .pre .1 .1) (c .before .before .before .before .before .before .before .before .before .args .walks) _ (c .before .before .before .before .before .before .before .before .before .pre .0) (seen-some _ _ _ _ _ (c .before .before .before .before .before .before .before .before .before .pre .1 .0 .0) (c .before .before .before .before .before .before .look .ensures) (c .before .before .before .before .if1 .left)) (seen-label _ _ _ _ _ (c .before .before .before .before .before .before .before .before .before .pre .1 .0 .0) (c .before .before .before .before .before .before .look .ensures) (c .before .before .before .before .if1 .left)) _ (c .before .before .before .before .before .before .look .ensures .number (seen-some _ _ _ _ _ (c .before .before .before .before .before .before .before .before .before .pre .1 .0 .0) (c .before .before .before .before .before .before .look .ensures) (c .before .before .before .before .if1 .left))) (subst (λ (x : Cell). Leads (a .r) (a .l .now) x) (c .before .before .before .neighbour .ensures) (c .before .finds-way .ensures (c .if2 .taken)))
 
--- src/lib.rt:97:9
 seal-requires : tie.Need-seal-requires
-seal-requires c κs = ?
+seal-requires c κs = (c .before .before .before .before .before .before .before .before .before .before .before .pre .0, ((seen-in _ _ _ _ _ (c .before .before .before .before .before .before .before .before .before .before .before .pre .1 .0 .0) (c .before .before .before .before .before .before .before .before .look .ensures) (c .before .before .before .before .before .before .if1 .left) _ (c .before .before .before .before .before .neighbour .ensures), seen-six _ _ _ _ _ (c .before .before .before .before .before .before .before .before .before .before .before .pre .1 .0 .0) (c .before .before .before .before .before .before .before .before .look .ensures) (c .before .before .before .before .before .before .if1 .left) _ (c .before .before .before .before .before .neighbour .ensures)), c .before .before .before .before .before .before .before .before .before .before .before .pre .1 .1))
 
--- src/lib.rt:97:9
 same-length-3 : tie.Need-same-length-3
-same-length-3 c = search needs
+same-length-3 c = c .before .before .seal .kept .0
 
--- src/lib.rt:97:9
 returns-3 : tie.Need-returns-3
-returns-3 c = ?
+returns-3 c = let a = c .before .before .before .before .before .before .before .before .before .before .before .before .before .before .args in let s = c .before .before .seal in settled-sealed _ _ (c .before .before .before .before .before .before .before .before .before .before .before .before .before .before .pre .1 .0 .0) _ (c .before .before .before .before .before .before .before .before .before .before .before .before .before .before .pre .1 .1) (c .before .before .before .before .before .before .before .before .before .before .before .before .before .before .args .walks) _ (c .before .before .before .before .before .before .before .before .before .before .before .before .before .before .pre .0) (seen-some _ _ _ _ _ (c .before .before .before .before .before .before .before .before .before .before .before .before .before .before .pre .1 .0 .0) (c .before .before .before .before .before .before .before .before .before .before .before .look .ensures) (c .before .before .before .before .before .before .before .before .before .if1 .left)) (seen-label _ _ _ _ _ (c .before .before .before .before .before .before .before .before .before .before .before .before .before .before .pre .1 .0 .0) (c .before .before .before .before .before .before .before .before .before .before .before .look .ensures) (c .before .before .before .before .before .before .before .before .before .if1 .left)) (c .before .before .before .before .if3 .taken) _ _ (subst (λ (x : Cell). Seals (a .r) (a .l .now) x (a .d) (s .last .0) (s .result)) (c .before .before .before .before .before .before .before .before .neighbour .ensures) (s .ensures))
 
--- src/lib.rt:80:1
 same-length-4 : tie.Need-same-length-4
 same-length-4 c = search needs
 
--- src/lib.rt:80:1
 returns-4 : tie.Need-returns-4
-returns-4 c = ?
+returns-4 c = settled-later _ _ (c .before .before .before .before .before .before .before .before .before .before .pre .1 .0 .0) _ (c .before .before .before .before .before .before .before .before .before .before .pre .1 .1) (c .before .before .before .before .before .before .before .before .before .before .args .walks) _ (c .before .before .before .before .before .before .before .before .before .before .pre .0) (c .if3 .left)
 
 pub settle-spec : {M : Type 1} → statement M
 settle-spec =

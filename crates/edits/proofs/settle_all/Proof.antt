@@ -1,46 +1,45 @@
+-- `edits::settle_all` meets its contract: way by way. Assumes nothing.
+use mathlib.Core.Path.{_≡_, subst}
+use Prim.Native.Nat.{ℕ, _-_, _≤_}
+use native.Mathlib.Omega.{arith}
+use Rattle.grid.proofs.Cells.{sheet-kept}
+use Rattle.edits.specs.Closing.{SettlesBelow}
+use Rattle.edits.proofs.Settlings.{below-none, below-more}
 use Rattle.edits.proofs.settle_all.Statement.{statement}
 use Rattle.edits.proofs.settle_all.Tie as tie
-use Rattle.edits.proofs.settle_all.Reads as reads
-use Rattle.edits.proofs.settle_all.Lts as lts
-use Rattle.edits.proofs.settle.Reads as settle-reads
+
+six : (d : ℕ) → d ≤ 6 → 6 ≤ d → d ≡ 6
+six d g h = omega arith
 
 abbrev Inv-loop : tie.InvT-loop
-Inv-loop l₀ r c n walks sealed₀ d₀ l sealed d = ?
+Inv-loop l₀ r c n walks sealed₀ d₀ l sealed d = (d ≤ 6) × SettlesBelow d r c walks l₀ l sealed
 
 abbrev μ-loop : tie.MeasureT-loop
-μ-loop l₀ r c n walks sealed₀ d₀ l sealed d = ?
+μ-loop l₀ r c n walks sealed₀ d₀ l sealed d = 6 - d
 
--- src/lib.rt:109:5
 loop-holds : tie.Need-loop-holds Inv-loop μ-loop
-loop-holds c = ?
+loop-holds c = (omega arith, below-none _ _ _ _)
 
--- src/lib.rt:110:19
 settle-requires : tie.Need-settle-requires Inv-loop μ-loop
-settle-requires c κs = ?
+settle-requires c κs = (sheet-kept _ _ _ (c .before .before .loop .inv .1 .size) (c .before .before .before .before .pre .0), (c .before .before .before .before .pre .1, c .before .loop-test .taken))
 
--- src/lib.rt:110:9
 add-sealed : tie.Need-add-sealed Inv-loop μ-loop
-add-sealed c = ?
+add-sealed c = omega (arith, c .before .before .before .before .before .loop .inv .1 .few, c .before .before .settle .ensures .few, c .before .before .before .before .loop-test .taken)
 
--- src/lib.rt:111:9
 add-d : tie.Need-add-d Inv-loop μ-loop
-add-d c = ?
+add-d c = omega (arith, c .before .before .before .before .loop-test .taken)
 
--- src/lib.rt:109:5
 loop-less : tie.Need-loop-less Inv-loop μ-loop
-loop-less c = ?
+loop-less c = omega (arith, c .before .before .before .before .loop-test .taken)
 
--- src/lib.rt:109:5
 loop-again : tie.Need-loop-again Inv-loop μ-loop
-loop-again c = ?
+loop-again c = (omega (arith, c .before .before .before .before .loop-test .taken), below-more _ _ _ _ (c .before .before .before .before .before .before .before .pre .1 .0) _ _ _ _ _ (c .before .before .before .before .before .loop .inv .1) (c .before .before .settle .ensures))
 
--- src/lib.rt:102:1
 same-length : tie.Need-same-length Inv-loop μ-loop
-same-length c = ?
+same-length c = c .before .loop .inv .1 .size
 
--- src/lib.rt:102:1
 returns : tie.Need-returns Inv-loop μ-loop
-returns c = ?
+returns c = let a = c .before .before .before .args in let o = c .before .loop in subst (λ (t : ℕ). SettlesBelow t (a .r) (a .c) (a .walks) (a .l .now) (o .l) (o .sealed)) (six (o .d) (o .inv .0) (c .loop-test .left)) (o .inv .1)
 
 pub settle-all-spec : {M : Type 1} → statement M
 settle-all-spec =

@@ -1,15 +1,15 @@
+-- `edits::wrong_kind` meets its contract. Assumes nothing.
+use mathlib.Core.Bool.{Bool}
+use mathlib.Core.Path.{sym, ap}
+use Rattle.edits.specs.Edits.{wrongKind}
 use Rattle.edits.proofs.wrong_kind.Statement.{statement}
 use Rattle.edits.proofs.wrong_kind.Tie as tie
-use Rattle.edits.proofs.wrong_kind.Reads as reads
-use Rattle.edits.proofs.wrong_kind.Lts as lts
 
--- src/lib.rt:191:1
 returns : tie.Need-returns
-returns c = ?
+returns c = ap (λ (b : Bool). wrongKind b (c .before .args .label)) (sym (c .if1 .taken))
 
--- src/lib.rt:191:1
 returns-2 : tie.Need-returns-2
-returns-2 c = ?
+returns-2 c = ap (λ (b : Bool). wrongKind b (c .before .args .label)) (sym (c .if1 .left))
 
 pub wrong-kind-spec : {M : Type 1} → statement M
 wrong-kind-spec = tie.close (tie.spec returns returns-2)
