@@ -6,6 +6,7 @@ ghost use Prim.Native.Nat.{_+_, _≤_};
 ghost use lib.ListN.{length};
 use grid::Axes;
 use grid::LabelSet;
+use grid::Span;
 
 // The twelve data words as floats.
 fn floats(s: &[u8], at: usize) -> [f32; 12]
@@ -63,19 +64,17 @@ fn grid_case(s: &[u8], at: usize)
     replay::checked(grid::grid_fault(Axes { r0, r1, r2 }, len));
 }
 
-// The labels whose bits are set.
-fn set_of(bits: u32) -> LabelSet {
-    LabelSet {
-        l0: bits % 2 == 1,
-        l1: bits / 2 % 2 == 1,
-        l2: bits / 4 % 2 == 1,
-        l3: bits / 8 % 2 == 1,
-        l4: bits / 16 % 2 == 1,
-        l5: bits / 32 % 2 == 1,
-        l6: bits / 64 % 2 == 1,
-        l7: bits / 128 % 2 == 1,
-        l8: bits / 256 % 2 == 1,
-    }
+// Two spans of labels, a byte for each end.
+fn set_of(ends: u32) -> LabelSet {
+    let one = Span {
+        low: (ends % 256) as u8,
+        high: (ends / 256 % 256) as u8,
+    };
+    let other = Span {
+        low: (ends / 65536 % 256) as u8,
+        high: (ends / 16777216 % 256) as u8,
+    };
+    LabelSet { one, other }
 }
 
 // Labels (5): as many of the 48 data bytes as the count says.

@@ -1,9 +1,10 @@
 -- What an edit's checks leave: a map of labels 6, 7 and 8, a cell of it, and the right kind of cell. Assumes nothing.
 use mathlib.Core.Bool.{Bool, true, false, true≢false, not, _&&_}
-use mathlib.Core.Logic.{_⊎_, inl, inr}
+use mathlib.Core.Logic.{_⊎_, inl, inr, ⊎-elim}
 use mathlib.Core.Path.{_≡_, refl, sym, subst}
 use mathlib.Core.List.{List, [], _∷_}
-use Prim.Native.Nat.{ℕ, zero, suc, _<_}
+use Prim.Native.Nat.{ℕ, _<_, _≤_}
+use native.Mathlib.Omega.{arith}
 use lib.Dec.{ltb, eqb}
 use borrow.Author.Tests.{ltb-true, eqb-true, eqb-false, not-false}
 use Rattle.grid.specs.declared.Axes.{Axes}
@@ -12,8 +13,8 @@ use Rattle.grid.specs.declared.Checked.the-variants.{Fine}
 use Rattle.grid.specs.Answers.{_andThen_, faultIf, Finds}
 use Rattle.grid.specs.Checks.{takes, mapFault}
 use Rattle.grid.specs.Grid.{num, InGrid, at, Sheet}
-use Rattle.grid.proofs.Cells.{num-lt}
-use Rattle.grid.proofs.Checks.{both-fine, passed, map-fine, finds-map, finds-if, finds-then}
+use Rattle.grid.proofs.Cells.{dec-eq, num-lt}
+use Rattle.grid.proofs.Checks.{both-fine, passed, taken-means, map-fine, finds-map, finds-if, finds-then}
 use Rattle.edits.specs.Edits.{Edit, opening, closing, mapLabels, inGrid, wrongKind, cellFault, editFault}
 use Rattle.edits.specs.Closing.{Map}
 
@@ -28,16 +29,10 @@ in-grid r c h =
     record { i-in = ltb-true (c .i) (r .r0) (q .0); j-in = ltb-true (c .j) (r .r1) (q .1); k-in = ltb-true (c .k) (r .r2) (p .1) }
 
 takes-three : (v : ℕ) → takes mapLabels v ≡ true → (v ≡ 6) ⊎ ((v ≡ 7) ⊎ (v ≡ 8))
-takes-three zero h = absurd (true≢false (sym h))
-takes-three (suc zero) h = absurd (true≢false (sym h))
-takes-three (suc (suc zero)) h = absurd (true≢false (sym h))
-takes-three (suc (suc (suc zero))) h = absurd (true≢false (sym h))
-takes-three (suc (suc (suc (suc zero)))) h = absurd (true≢false (sym h))
-takes-three (suc (suc (suc (suc (suc zero))))) h = absurd (true≢false (sym h))
-takes-three (suc (suc (suc (suc (suc (suc zero)))))) h = inl refl
-takes-three (suc (suc (suc (suc (suc (suc (suc zero))))))) h = inr (inl refl)
-takes-three (suc (suc (suc (suc (suc (suc (suc (suc zero)))))))) h = inr (inr refl)
-takes-three (suc (suc (suc (suc (suc (suc (suc (suc (suc v))))))))) h = absurd (true≢false (sym h))
+takes-three v h = ⊎-elim (λ e. of (e .0) (e .1)) (λ e. of (e .0) (e .1)) (taken-means mapLabels v h)
+  where
+    of : 6 ≤ v → v ≤ 8 → (v ≡ 6) ⊎ ((v ≡ 7) ⊎ (v ≡ 8))
+    of p q = dec-eq v 6 (λ e. inl e) (λ z. dec-eq v 7 (λ e. inr (inl e)) (λ y. inr (inr (omega arith))))
 
 -- where an edit is not refused
 pub record Sound (r : Axes) (l : List ℕ) (c : Cell) (surface : Bool) : Type 0 where

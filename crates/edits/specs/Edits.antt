@@ -12,7 +12,7 @@ use Rattle.grid.specs.declared.Checked.{Checked}
 use Rattle.grid.specs.declared.Checked.the-variants.{Fine}
 use Rattle.grid.specs.declared.LabelSet.{LabelSet}
 use Rattle.grid.specs.Answers.{Outcome, answers, refuses, faultIf, _andThen_}
-use Rattle.grid.specs.Checks.{mapFault}
+use Rattle.grid.specs.Checks.{mapFault, spans}
 use Rattle.grid.specs.Grid.{InGrid, num, at, Face, Border}
 use Rattle.grid.specs.Paths.{Joined, Through}
 use Rattle.edits.specs.declared.Editing.{Editing}
@@ -31,7 +31,7 @@ pub data Edit : Type 0 where
 
 -- "Labels 6, 7, 8 only, else 11", after 8 and 9
 abbrev pub mapLabels : LabelSet
-mapLabels = record { l0 = false; l1 = false; l2 = false; l3 = false; l4 = false; l5 = false; l6 = true; l7 = true; l8 = true }
+mapLabels = spans 6 8 6 8
 
 -- "12: a cell [...] outside its range"
 abbrev pub inGrid : Axes → Cell → Bool

@@ -15,6 +15,7 @@ use grid::Cell;
 use grid::Checked;
 use grid::LabelSet;
 use grid::Refusal;
+use grid::Span;
 
 // What an edit answers: how many labels changed; the edit itself is in the labels.
 pub enum Editing {
@@ -162,15 +163,8 @@ fn taken_labels() -> LabelSet
     ensures { λ s. ⌜ s ≡ mapLabels ⌝ }
 {
     LabelSet {
-        l0: false,
-        l1: false,
-        l2: false,
-        l3: false,
-        l4: false,
-        l5: false,
-        l6: true,
-        l7: true,
-        l8: true,
+        one: Span { low: 6, high: 8 },
+        other: Span { low: 6, high: 8 },
     }
 }
 

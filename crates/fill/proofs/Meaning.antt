@@ -12,12 +12,13 @@ use borrow.Author.Tests.{eqb-true, eq-eqb, ne-eqb, le-leb, lt-leb}
 use Rattle.grid.specs.declared.Axes.{Axes}
 use Rattle.grid.specs.declared.Cell.{Cell}
 use Rattle.grid.specs.declared.LabelSet.{LabelSet}
-use Rattle.grid.specs.Checks.{takes}
+use Rattle.grid.specs.Checks.{takes, spans}
 use Rattle.grid.specs.Counts.{countOf}
 use Rattle.grid.specs.Flood.{Aired, Floods, surface, outside, inside, Flooded}
 use Rattle.grid.specs.Grid.{InGrid, num, cells, cellNumbered, at, Border, onBorder}
 use Rattle.grid.specs.Paths.{starts, steps}
 use Rattle.grid.proofs.Cells.{not-both, num-lt, number-of-cell, cell-in, labels-length, labels-at, border-test}
+use Rattle.grid.proofs.Checks.{taken-means}
 use Rattle.grid.proofs.First.{every-all}
 use Rattle.grid.proofs.Counts.{count-most, count-others, count-map, count-alike, count-none}
 use Rattle.spread.specs.Spread.{Plain, Reached, Spread}
@@ -37,16 +38,7 @@ use Rattle.fill.proofs.Swings.{outward-proper}
 
 -- check 11 leaves no others
 takes-marks : (v : ℕ) → takes marks v ≡ true → (v ≡ 0) ⊎ (v ≡ 8)
-takes-marks zero h = inl refl
-takes-marks (suc zero) h = absurd (true≢false (sym h))
-takes-marks (suc (suc zero)) h = absurd (true≢false (sym h))
-takes-marks (suc (suc (suc zero))) h = absurd (true≢false (sym h))
-takes-marks (suc (suc (suc (suc zero)))) h = absurd (true≢false (sym h))
-takes-marks (suc (suc (suc (suc (suc zero))))) h = absurd (true≢false (sym h))
-takes-marks (suc (suc (suc (suc (suc (suc zero)))))) h = absurd (true≢false (sym h))
-takes-marks (suc (suc (suc (suc (suc (suc (suc zero))))))) h = absurd (true≢false (sym h))
-takes-marks (suc (suc (suc (suc (suc (suc (suc (suc zero)))))))) h = inr refl
-takes-marks (suc (suc (suc (suc (suc (suc (suc (suc (suc v))))))))) h = absurd (true≢false (sym h))
+takes-marks v h = ⊎-elim (λ e. inl (omega (arith, e .1))) (λ e. inr (omega (arith, e .0, e .1))) (taken-means marks v h)
 
 pub only-marks : (l : List ℕ) → ((n : ℕ) → n < length l → takes marks (getD l n 0) ≡ true) → Marks l
 only-marks l h n g = takes-marks (getD l n 0) (h n g)
@@ -247,7 +239,7 @@ module _ (r : Axes) (l : List ℕ) (size : length l ≡ cells r) (m : Marks l) w
 
   -- every label but 3
   abbrev working : LabelSet
-  working = record { l0 = true; l1 = true; l2 = true; l3 = false; l4 = true; l5 = true; l6 = true; l7 = true; l8 = true }
+  working = spans 0 2 4 8
 
   outward-works : Stays (outward 4) (takes working)
   outward-works = record { passing = refl; setting = refl; marking = refl }
@@ -279,7 +271,7 @@ module _ (r : Axes) (l : List ℕ) (size : length l ≡ cells r) (m : Marks l) w
   last-step (suc (suc (suc (suc (suc (suc zero)))))) h = refl
   last-step (suc (suc (suc (suc (suc (suc (suc zero))))))) h = refl
   last-step (suc (suc (suc (suc (suc (suc (suc (suc zero)))))))) h = refl
-  last-step (suc (suc (suc (suc (suc (suc (suc (suc (suc v))))))))) h = absurd (true≢false (sym h))
+  last-step (suc (suc (suc (suc (suc (suc (suc (suc (suc v))))))))) h = absurd (⊎-elim (λ e. omega (arith, e .1)) (λ e. omega (arith, e .1)) (taken-means working (suc (suc (suc (suc (suc (suc (suc (suc (suc v))))))))) h))
 
   cavity-labels : (f : List ℕ) (n : ℕ) → CavityRun r l f n → Among cavityLabels f
   cavity-labels f n run =

@@ -1,5 +1,5 @@
 -- 01, Fill: the whole call, as a procedure and as what it means. Definitions only.
-use mathlib.Core.Bool.{Bool, true, false}
+use mathlib.Core.Bool.{Bool, true}
 use mathlib.Core.Logic.{_↔_}
 use mathlib.Core.Path.{_≡_}
 use mathlib.Core.List.{List, map}
@@ -11,7 +11,7 @@ use Rattle.grid.specs.declared.Cell.{Cell}
 use Rattle.grid.specs.declared.Checked.{Checked}
 use Rattle.grid.specs.declared.LabelSet.{LabelSet}
 use Rattle.grid.specs.Answers.{Outcome, answers, refuses}
-use Rattle.grid.specs.Checks.{takes, mapFault}
+use Rattle.grid.specs.Checks.{takes, mapFault, spans}
 use Rattle.grid.specs.Counts.{count, countOf}
 use Rattle.grid.specs.First.{every}
 use Rattle.grid.specs.Flood.{Flooded}
@@ -30,7 +30,7 @@ outcome (Refused f) = refuses (f .number) (f .place)
 
 -- "marks of 0 and 8 only (else 11)", after 8 and 9
 abbrev pub marks : LabelSet
-marks = record { l0 = true; l1 = false; l2 = false; l3 = false; l4 = false; l5 = false; l6 = false; l7 = false; l8 = true }
+marks = spans 0 0 8 8
 
 abbrev pub fillFault : Axes → List ℕ → Checked
 fillFault = mapFault marks
@@ -71,7 +71,7 @@ Among s l = every (takes s) l ≡ true
 
 -- surface, Outside, Inside, and what a phase has not walked: 0, 1 and 2
 abbrev pub cavityLabels : LabelSet
-cavityLabels = record { l0 = true; l1 = true; l2 = true; l3 = false; l4 = false; l5 = false; l6 = true; l7 = true; l8 = true }
+cavityLabels = spans 0 2 6 8
 
 -- surface-only: every other cell is 6, in 0 scans. Flood: demand 2, none left, and "scans are at most the Outside cells plus 1". With cavities: surface cells stay surface, and no working label of a surface stays; which other cells get which label, only the scans say
 abbrev pub Means : Mode → Axes → List ℕ → Counts → List ℕ → Type 0

@@ -15,6 +15,7 @@ use grid::Cell;
 use grid::Checked;
 use grid::LabelSet;
 use grid::Refusal;
+use grid::Span;
 use spread::Phase;
 use spread::Walkers;
 
@@ -239,15 +240,8 @@ fn taken_marks() -> LabelSet
     ensures { λ s. ⌜ s ≡ marks ⌝ }
 {
     LabelSet {
-        l0: true,
-        l1: false,
-        l2: false,
-        l3: false,
-        l4: false,
-        l5: false,
-        l6: false,
-        l7: false,
-        l8: true,
+        one: Span { low: 0, high: 0 },
+        other: Span { low: 8, high: 8 },
     }
 }
 

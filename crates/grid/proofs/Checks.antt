@@ -1,23 +1,24 @@
 -- Laws of checks in a row, and of specs/Checks.antt: a check that finds no fault says that its line of the table does not hold. Assumes nothing.
 use mathlib.Core.Bool.{Bool, true, false, not, _&&_, _||_, true≢false, false≢true}
-use mathlib.Core.Logic.{_↔_}
+use mathlib.Core.Logic.{_⊎_, inl, inr, ⊎-elim, _↔_}
 use mathlib.Core.Path.{_≡_, refl, sym, ap, _∙_, subst}
 use mathlib.Core.List.{List}
-use Prim.Native.Nat.{ℕ, zero, suc, _<_, _≤_}
+use Prim.Native.Nat.{ℕ, _<_, _≤_}
 use native.Mathlib.Omega.{arith}
-use lib.Dec.{T, eqb, ltb}
+use lib.Dec.{T, eqb, ltb, leb}
 use lib.ListN.{length, getD}
-use borrow.Author.Tests.{eqb-true, eqb-false, eq-eqb, ne-eqb, ltb-true, ltb-false, lt-ltb, le-ltb}
+use borrow.Author.Tests.{eqb-true, eqb-false, eq-eqb, ne-eqb, ltb-true, ltb-false, lt-ltb, le-ltb, leb-true}
 use Rattle.grid.specs.declared.Axes.{Axes}
 use Rattle.grid.specs.declared.Checked.{Checked}
 use Rattle.grid.specs.declared.Checked.the-variants.{Fine, Fault}
 use Rattle.grid.specs.declared.LabelSet.{LabelSet}
 use Rattle.grid.specs.declared.Refusal.{Refusal}
+use Rattle.grid.specs.declared.Span.{Span}
 use Rattle.grid.specs.Answers.{Outcome, answers, refuses, faultAt, faultIf, _andThen_, unless, Ends, isOneOf, Finds, Gives}
 use Rattle.grid.specs.First.{FirstAt, firstNot}
 use Rattle.grid.specs.Grid.{Axis, Sound, cells, Sheet}
-use Rattle.grid.specs.Checks.{firstFault, badAxis, axesFault, bufferFault, gridFault, takes, labelsFault, mapFault}
-use Rattle.grid.proofs.First.{before-first, at-first, first-is, first-one}
+use Rattle.grid.specs.Checks.{firstFault, badAxis, axesFault, bufferFault, gridFault, within, takes, labelsFault, mapFault}
+use Rattle.grid.proofs.First.{or-true, before-first, at-first, first-is, first-one}
 
 -- ---- a row of checks
 
@@ -168,34 +169,18 @@ module _ {A : Type 0} (n : ℕ) (place : ℕ → ℕ) (ok : A → Bool) (d : A) 
       go true e r = let s = same (record { number = n; place = place p }) f r in (p, first-is ok d xs (ltb-true p (length xs) e), sym (ap (λ (x : Refusal). x .number) s), sym (ap (λ (x : Refusal). x .place) s))
       go false e r = absurd (no-fault f (sym r))
 
--- ---- the test for a label of a set, as the code has it
+-- ---- labels of a set
 
-abbrev pub tested : Bool → Bool → Bool → Bool → Bool → Bool → Bool → Bool → Bool → LabelSet → Bool
-tested e0 e1 e2 e3 e4 e5 e6 e7 e8 s =
-    (((e0 && s .l0) || (e1 && s .l1)) || (e2 && s .l2))
-    || (((e3 && s .l3) || (e4 && s .l4)) || (e5 && s .l5))
-    || (((e6 && s .l6) || (e7 && s .l7)) || (e8 && s .l8))
-
-as-it-is : (f : Bool → Bool) → f true ≡ true → f false ≡ false → (b : Bool) → f b ≡ b
-as-it-is f p q true = p
-as-it-is f p q false = q
-
-pub taken-test : (s : LabelSet) (v : ℕ) → tested (eqb v 0) (eqb v 1) (eqb v 2) (eqb v 3) (eqb v 4) (eqb v 5) (eqb v 6) (eqb v 7) (eqb v 8) s ≡ takes s v
-taken-test s zero = as-it-is (λ b. (((b || false) || false) || false) || false) refl refl (s .l0)
-taken-test s (suc zero) = as-it-is (λ b. ((b || false) || false) || false) refl refl (s .l1)
-taken-test s (suc (suc zero)) = as-it-is (λ b. (b || false) || false) refl refl (s .l2)
-taken-test s (suc (suc (suc zero))) = as-it-is (λ b. ((b || false) || false) || false) refl refl (s .l3)
-taken-test s (suc (suc (suc (suc zero)))) = as-it-is (λ b. (b || false) || false) refl refl (s .l4)
-taken-test s (suc (suc (suc (suc (suc zero))))) = as-it-is (λ b. b || false) refl refl (s .l5)
-taken-test s (suc (suc (suc (suc (suc (suc zero)))))) = as-it-is (λ b. (b || false) || false) refl refl (s .l6)
-taken-test s (suc (suc (suc (suc (suc (suc (suc zero))))))) = as-it-is (λ b. b || false) refl refl (s .l7)
-taken-test s (suc (suc (suc (suc (suc (suc (suc (suc zero)))))))) = refl
-taken-test s (suc (suc (suc (suc (suc (suc (suc (suc (suc n))))))))) =
-    let v = suc (suc (suc (suc (suc (suc (suc (suc (suc n)))))))) in
-    λ t. tested (past 0 (omega arith) t) (past 1 (omega arith) t) (past 2 (omega arith) t) (past 3 (omega arith) t) (past 4 (omega arith) t) (past 5 (omega arith) t) (past 6 (omega arith) t) (past 7 (omega arith) t) (past 8 (omega arith) t) s
+-- what the test says
+pub taken-means : (s : LabelSet) (v : ℕ) → takes s v ≡ true → ((s .one .low ≤ v) × (v ≤ s .one .high)) ⊎ ((s .other .low ≤ v) × (v ≤ s .other .high))
+taken-means s v h = ⊎-elim (λ e. inl (of (s .one) e)) (λ e. inr (of (s .other) e)) (or-true (within (s .one) v) (within (s .other) v) h)
   where
-    past : (k : ℕ) → k < 9 → eqb (suc (suc (suc (suc (suc (suc (suc (suc (suc n))))))))) k ≡ false
-    past k h = ne-eqb (suc (suc (suc (suc (suc (suc (suc (suc (suc n))))))))) k (λ e. omega arith)
+    both : (a b : Bool) → (a && b) ≡ true → (a ≡ true) × (b ≡ true)
+    both true b e = (refl, e)
+    both false b e = absurd (true≢false (sym e))
+
+    of : (a : Span) → within a v ≡ true → (a .low ≤ v) × (v ≤ a .high)
+    of a e = let q = both (leb (a .low) v) (leb v (a .high)) e in (leb-true (a .low) v (q .0), leb-true v (a .high) (q .1))
 
 -- ---- a call that goes by a relation
 

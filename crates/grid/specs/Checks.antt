@@ -1,13 +1,14 @@
 -- The refusals 8, 9 and 11 of 01's table. Definitions only.
 use Prim.Native.Nat.{ℕ}
-use mathlib.Core.Bool.{Bool, false, not, _||_}
-use mathlib.Core.List.{List, [], _∷_}
-use lib.Dec.{eqb, ltb}
-use lib.ListN.{length, getD}
+use mathlib.Core.Bool.{Bool, not, _&&_, _||_}
+use mathlib.Core.List.{List}
+use lib.Dec.{eqb, ltb, leb}
+use lib.ListN.{length}
 use Rattle.grid.specs.declared.Axes.{Axes}
 use Rattle.grid.specs.declared.Checked.{Checked}
 use Rattle.grid.specs.declared.Checked.the-variants.{Fine}
 use Rattle.grid.specs.declared.LabelSet.{LabelSet}
+use Rattle.grid.specs.declared.Span.{Span}
 use Rattle.grid.specs.Answers.{faultIf, _andThen_}
 use Rattle.grid.specs.First.{firstNot}
 use Rattle.grid.specs.Grid.{cells}
@@ -30,9 +31,12 @@ bufferFault r len = faultIf (not (eqb len (cells r))) 9 0 Fine
 abbrev pub gridFault : Axes → ℕ → Checked
 gridFault r len = axesFault r andThen bufferFault r len
 
--- a label of the set: flag v of its nine, and none past 8
+-- a label of the set: in one span or in the other
+abbrev pub within : Span → ℕ → Bool
+within a v = leb (a .low) v && leb v (a .high)
+
 abbrev pub takes : LabelSet → ℕ → Bool
-takes s v = getD (s .l0 ∷ s .l1 ∷ s .l2 ∷ s .l3 ∷ s .l4 ∷ s .l5 ∷ s .l6 ∷ s .l7 ∷ s .l8 ∷ []) v false
+takes s v = within (s .one) v || within (s .other) v
 
 -- "11: a label the call does not take"; the place is the label's cell number
 abbrev pub labelsFault : LabelSet → List ℕ → Checked
@@ -41,3 +45,7 @@ labelsFault s l = firstFault 11 (λ n. n) (takes s) l
 -- the three of a map, in the order of their numbers
 abbrev pub mapFault : LabelSet → Axes → List ℕ → Checked
 mapFault s r l = gridFault r (length l) andThen labelsFault s l
+
+-- a set of labels by its spans
+abbrev pub spans : ℕ → ℕ → ℕ → ℕ → LabelSet
+spans a b c d = record { one = record { low = a; high = b }; other = record { low = c; high = d } }

@@ -42,17 +42,16 @@ pub enum Checked {
     Fault(Refusal),
 }
 
-// Which of the labels 0 to 8 a call takes.
+// The labels from low to high, both included.
+pub struct Span {
+    pub low: u8,
+    pub high: u8,
+}
+
+// Which labels a call takes: those of one span and of the other.
 pub struct LabelSet {
-    pub l0: bool,
-    pub l1: bool,
-    pub l2: bool,
-    pub l3: bool,
-    pub l4: bool,
-    pub l5: bool,
-    pub l6: bool,
-    pub l7: bool,
-    pub l8: bool,
+    pub one: Span,
+    pub other: Span,
 }
 
 // The number of a cell.
@@ -129,10 +128,9 @@ pub fn grid_fault(r: Axes, len: usize) -> Checked
 fn taken(set: LabelSet, v: u8) -> bool
     ensures { λ b. ⌜ b ≡ takes set v ⌝ }
 {
-    let low = ((v == 0) & set.l0) | ((v == 1) & set.l1) | ((v == 2) & set.l2);
-    let middle = ((v == 3) & set.l3) | ((v == 4) & set.l4) | ((v == 5) & set.l5);
-    let high = ((v == 6) & set.l6) | ((v == 7) & set.l7) | ((v == 8) & set.l8);
-    low | middle | high
+    let a = set.one;
+    let b = set.other;
+    ((a.low <= v) & (v <= a.high)) | ((b.low <= v) & (v <= b.high))
 }
 
 // Whether every label is in the set. The loop has no way out, so that it runs at the speed of a plain

@@ -17,6 +17,9 @@ fn down(x: f32) -> f32 {
     f32::from_bits(x.to_bits() - 1)
 }
 
+/// Two spans of labels: low, high, low, high.
+type Set = [u8; 4];
+
 #[derive(Clone)]
 enum Case {
     Size(Vec<f32>, f32),
@@ -24,7 +27,7 @@ enum Case {
     Rounding(f32),
     Many(u32),
     Grid([u32; 3], u32),
-    Labels(Vec<u8>, u32),
+    Labels(Vec<u8>, Set),
 }
 
 fn refused(number: u32, place: usize) -> String {
@@ -110,8 +113,12 @@ fn grid_fault(r: [u32; 3], len: u32) -> String {
     "fine\n".into()
 }
 
-fn labels_fault(labels: &[u8], set: u32) -> String {
-    match labels.iter().position(|&v| v > 8 || set >> v & 1 == 0) {
+fn has(set: Set, v: u8) -> bool {
+    (set[0]..=set[1]).contains(&v) || (set[2]..=set[3]).contains(&v)
+}
+
+fn labels_fault(labels: &[u8], set: Set) -> String {
+    match labels.iter().position(|&v| !has(set, v)) {
         Some(i) => refused(11, i),
         None => "fine\n".into(),
     }
@@ -135,7 +142,7 @@ fn words(c: &Case) -> Vec<u8> {
         Case::Rounding(x) => (2, x.to_bits(), 0, vec![]),
         Case::Many(n) => (3, *n, 0, vec![]),
         Case::Grid(r, len) => (4, *len, 3, r.iter().flat_map(|w| w.to_le_bytes()).collect()),
-        Case::Labels(l, set) => (5, *set, l.len(), l.clone()),
+        Case::Labels(l, set) => (5, u32::from_le_bytes(*set), l.len(), l.clone()),
     };
     let mut out: Vec<u8> = [kind, value, count as u32].iter().flat_map(|w| w.to_le_bytes()).collect();
     out.extend(data);
@@ -267,10 +274,10 @@ fn check_edges(out: &mut Vec<Case>) {
             out.push(Case::Grid(r, 8));
         }
     }
-    let sets = [0b100000001, 0b111000000, 0b111111111, 0, 0b000000010, 0b011111110];
+    let sets = [[0, 0, 8, 8], [6, 8, 6, 8], [0, 8, 0, 8], [1, 0, 9, 2], [1, 1, 1, 1], [0, 2, 6, 8]];
     for set in sets {
         for v in 0..=9u8 {
-            out.push(Case::Labels(vec![8, 8, v, 8, v], set | 1 << 8));
+            out.push(Case::Labels(vec![8, 8, v, 8, v], [set[0], set[1], 8, 8]));
             out.push(Case::Labels(vec![v; 48], set));
         }
         out.push(Case::Labels(vec![255], set));
@@ -292,9 +299,10 @@ fn random(out: &mut Vec<Case>, rng: &mut Random) {
     }
     for _ in 0..40 {
         let n = rng.below(49) as usize;
-        let set = rng.below(512) as u32;
+        let set = [0; 4].map(|_: u8| rng.below(10) as u8);
+        let some = (0..=9).find(|v| has(set, *v));
         let mut labels: Vec<u8> = (0..n).map(|_| rng.below(9) as u8).collect();
-        labels.iter_mut().for_each(|v| if rng.below(30) > 0 && set >> *v & 1 == 0 && set > 0 { *v = set.trailing_zeros() as u8 });
+        labels.iter_mut().for_each(|v| if rng.below(30) > 0 && !has(set, *v) { *v = some.unwrap_or(*v) });
         out.push(Case::Labels(labels, set));
     }
 }
