@@ -11,7 +11,8 @@ use Rattle.mesh.specs.Mesh.{wholeParts, partsAt, onAxis, isCandidate}
 use Rattle.marking.specs.Marked.{hits}
 use Rattle.samples.specs.Table.{All, table}
 use Rattle.samples.proofs.Filled.{marked-filled, box-flood, box-cavities, cube-flood, cube-cavities}
+use Rattle.samples.proofs.Hatch.{hatch-opened, hatch-closed, centre-refused}
 
 pub samples : All table
 unfolding firstNot someBelow firstOnes bounded spansTo natural ceilOf truncOf nearestOf wholeParts partsAt onAxis isCandidate dotZ edge cross reach apart someApart touching hits lt le eq sub mul div ofInt
-samples = (refl, (refl, (refl, (refl, ((refl, refl), ((refl, refl), (refl, (refl, ((refl, refl), (marked-filled, (box-flood, (box-cavities, (cube-flood, (cube-cavities, tt))))))))))))))
+samples = (refl, (refl, (refl, (refl, ((refl, refl), ((refl, refl), (refl, (refl, ((refl, refl), (marked-filled, (box-flood, (box-cavities, (cube-flood, (cube-cavities, (hatch-opened, (hatch-closed, (centre-refused, tt)))))))))))))))))

@@ -1,2 +1,3 @@
 mod Filled
+mod Hatch
 pub mod Claim

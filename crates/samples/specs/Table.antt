@@ -10,7 +10,7 @@ use Rattle.numbers.specs.declared.Whole.the-variants.{Of}
 use Rattle.numbers.specs.Rounding.{nearestOf, parts, cellOf}
 use Rattle.grid.specs.declared.Axes.{Axes}
 use Rattle.grid.specs.declared.Cell.{Cell}
-use Rattle.grid.specs.Answers.{Outcome, answers, Ends}
+use Rattle.grid.specs.Answers.{Outcome, answers, refuses, Ends}
 use Rattle.grid.specs.Counts.{countOf}
 use Rattle.grid.specs.Grid.{num}
 use Rattle.sizing.specs.Sizing.{Laid, bySize, byResolution}
@@ -19,6 +19,8 @@ use Rattle.fill.specs.declared.Counts.{Counts}
 use Rattle.fill.specs.declared.Mode.{Mode}
 use Rattle.fill.specs.declared.Mode.the-variants.{Flood, Cavities}
 use Rattle.fill.specs.Modes.{fillFault, Fills}
+use Rattle.edits.specs.Edits.{Edit, opening, closing}
+use Rattle.edits.specs.History.{Call}
 
 pub data Sample : Type 0 where
   by-size : List Float → Float → Outcome Laid → Sample
@@ -27,6 +29,7 @@ pub data Sample : Type 0 where
   numbered : Axes → Cell → ℕ → Sample
   marking : List Float → List ℕ → Laid → List ℕ → List ℕ → Sample
   filling : Axes → Mode → List ℕ → Counts → List ℕ → ℕ → ℕ → Sample
+  editing : Axes → Edit → List ℕ → Outcome ℕ → List ℕ → Sample
 
 abbrev pub Holds : Sample → Type 0
 Holds (by-size ps size o) = bySize ps size ≡ o
@@ -36,6 +39,7 @@ Holds (numbered r c n) = num r c ≡ n
 Holds (marking ps ts l before after) = (markAnswer ps ts (l .axes) (l .placement) before ≡ answers tt) × (markLabels ps ts (l .axes) (l .placement) before ≡ after)
 Holds (filling r mode before n after outside inside) =
     Ends (fillFault r before) before (Fills mode r before) (answers n) after × (countOf 6 after ≡ outside) × (countOf 7 after ≡ inside)
+Holds (editing r e before o after) = Call r e before o after
 
 abbrev pub All : List Sample → Type 0
 All [] = Unit
@@ -86,21 +90,31 @@ counts scans left = record { scans = scans; left = left }
 abbrev pub box : ℕ → ℕ → List ℕ
 box wall centre = replicate 13 wall ++ centre ∷ replicate 13 wall
 
--- 5 by 5 by 5: the border cells, the 26 cells about the centre, and the centre
-abbrev pub cube : ℕ → ℕ → ℕ → List ℕ
-cube border wall centre = face ++ full ++ middle ++ full ++ face
+-- 5 by 5 by 5: the border cells, the 26 cells about the centre, and the row through the centre along i
+abbrev pub around : ℕ → ℕ → List ℕ → List ℕ
+around border wall centreRow = face ++ full ++ middle ++ full ++ face
   where
     face : List ℕ
     face = replicate 25 border
 
-    row : ℕ → List ℕ
-    row v = border ∷ wall ∷ v ∷ wall ∷ border ∷ []
+    row : List ℕ
+    row = border ∷ wall ∷ wall ∷ wall ∷ border ∷ []
 
     full : List ℕ
-    full = replicate 5 border ++ row wall ++ row wall ++ row wall ++ replicate 5 border
+    full = replicate 5 border ++ row ++ row ++ row ++ replicate 5 border
 
     middle : List ℕ
-    middle = replicate 5 border ++ row wall ++ row centre ++ row wall ++ replicate 5 border
+    middle = replicate 5 border ++ row ++ centreRow ++ row ++ replicate 5 border
+
+abbrev pub cube : ℕ → ℕ → ℕ → List ℕ
+cube border wall centre = around border wall (border ∷ wall ∷ centre ∷ wall ∷ border ∷ [])
+
+-- that map with (1, 2, 2) and the centre Outside
+abbrev pub hatchOpen : List ℕ
+hatchOpen = around 6 8 (6 ∷ 6 ∷ 6 ∷ 8 ∷ 6 ∷ [])
+
+abbrev pub cell : ℕ → ℕ → ℕ → Cell
+cell i j k = record { i = i; j = j; k = k }
 
 -- "Extent 30: size 1.5 gives 21 cells, size 15 gives 3. Extent 0 gives 3." 1 / 1.5 is 11184811 / 2 ^ 24 and 1 / 15 is 8947849 / 2 ^ 27, each rounded once
 -- "R = 10, d = (4, 2, 1): axes 10, 7, 4, scale 4/9 rounded. R = 4, d = (2, 2, 1): 4, 6, 4." 4 / 9 is 14913081 / 2 ^ 25, of which 1 over is 9 / 4; 2 / 3 is 11184811 / 2 ^ 24
@@ -110,6 +124,7 @@ cube border wall centre = face ++ full ++ middle ++ full ++ face
 -- that map filled: `outside 25`, `inside 0`, `left 0`, `scans 2`
 -- "3 by 3 by 3, all but the centre marked: flood makes the centre 7 in 1 scan; cavities leave it 0, left 1, 2 scans."
 -- "5 by 5 by 5, the 26 cells about the centre marked: 98 Outside, 1 Inside, 2 scans; with cavities the same labels, 5 scans."
+-- "That map: open (1,2,2), 2 changed; close it, 2 changed and the map is back. Opening the centre: 13."
 abbrev pub table : List Sample
 table =
     by-size (corner thirty (f 0) (f 0)) (part 3 0) (laid (axes 21 3 3) (part 3 0) (part 11184811 23))
@@ -118,7 +133,7 @@ table =
     ∷ by-resolution (corner two two (f 1)) 4 (laid (axes 4 6 4) (part 11184811 23) (part 3 0))
     ∷ rounding (part 1 1) (pos 64) (pos 0)
     ∷ rounding (part 1 0) (pos 128) (pos 1)
-    ∷ numbered (axes 3 3 3) (record { i = 1; j = 2; k = 0 }) 7
+    ∷ numbered (axes 3 3 3) (cell 1 2 0) 7
     ∷ by-size threePoints (f 1) (laid (axes 3 3 3) (f 1) (f 1))
     ∷ marking threePoints twoTriangles (lies (axes 3 3 3) (f 1) (f 1)) (replicate 27 7) (8 ∷ 8 ∷ replicate 25 0)
     ∷ filling (axes 3 3 3) Flood (8 ∷ 8 ∷ replicate 25 0) (counts 2 0) (8 ∷ 8 ∷ replicate 25 6) 25 0
@@ -126,4 +141,7 @@ table =
     ∷ filling (axes 3 3 3) Cavities (box 8 0) (counts 2 1) (box 8 0) 0 0
     ∷ filling (axes 5 5 5) Flood (cube 0 8 0) (counts 2 0) (cube 6 8 7) 98 1
     ∷ filling (axes 5 5 5) Cavities (cube 0 8 0) (counts 5 0) (cube 6 8 7) 98 1
+    ∷ editing (axes 5 5 5) (opening (cell 1 2 2)) (cube 6 8 7) (answers 2) hatchOpen
+    ∷ editing (axes 5 5 5) (closing (cell 1 2 2)) hatchOpen (answers 2) (cube 6 8 7)
+    ∷ editing (axes 5 5 5) (opening (cell 2 2 2)) (cube 6 8 7) (refuses 13 0) (cube 6 8 7)
     ∷ []

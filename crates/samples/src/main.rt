@@ -1,6 +1,9 @@
 // 01's samples, run one after the other: each line is held to the file `stdout`, which was written
 // from 01's text. Axes come before the bits of the origin, the scale and the reciprocal.
+ghost use mathlib.Core.Path.{_≡_};
 ghost use Prim.Native.Nat.{_<_};
+ghost use lib.ListN.{length};
+use edits::Editing;
 use fill::Filling;
 use fill::Mode;
 use grid::Axes;
@@ -131,19 +134,55 @@ fn marked_about_the_centre(n: usize) -> u8 {
 }
 
 // 5 by 5 by 5, the 26 cells about the centre marked.
-fn five(mode: Mode) {
+fn marks_about_the_centre() -> [u8; 125]
+    ensures { λ l. ⌜ 125 ≡ length l ⌝ }
+{
     let mut labels = [0u8; 125];
     let mut n = 0usize;
     while n < 125 {
         labels[n] = marked_about_the_centre(n);
         n += 1;
     }
-    let r = Axes {
+    labels
+}
+
+fn five_axes() -> Axes {
+    Axes {
         r0: 5,
         r1: 5,
         r2: 5,
-    };
-    fill_and_show(&mut labels, r, mode, 25);
+    }
+}
+
+fn five(mode: Mode) {
+    let mut labels = marks_about_the_centre();
+    fill_and_show(&mut labels, five_axes(), mode, 25);
+}
+
+// How many labels an edit changed, and the labels after it.
+fn edited(e: Editing, labels: &[u8]) {
+    match e {
+        Editing::Refused(f) => replay::checked(Checked::Fault(f)),
+        Editing::Changed(n) => {
+            replay::number(n as u64);
+            replay::text(b"\n");
+            show(labels, 25);
+        }
+    }
+}
+
+// That map: a cell is opened and closed, and the centre cannot be opened.
+fn open_and_close() {
+    let mut labels = marks_about_the_centre();
+    let r = five_axes();
+    fill_and_show(&mut labels, r, Mode::Flood, 25);
+    let c = Cell { i: 1, j: 2, k: 2 };
+    let opened = edits::open_cell(&mut labels, r, c);
+    edited(opened, &labels);
+    let closed = edits::close_cell(&mut labels, r, c);
+    edited(closed, &labels);
+    let centre = edits::open_cell(&mut labels, r, Cell { i: 2, j: 2, k: 2 });
+    edited(centre, &labels);
 }
 
 fn main() {
@@ -168,6 +207,6 @@ fn main() {
     two_cells(Mode::Flood);
     three(Mode::Flood);
     three(Mode::Cavities);
-    five(Mode::Flood);
     five(Mode::Cavities);
+    open_and_close();
 }

@@ -1,16 +1,16 @@
--- `samples::five` stays in the array. Assumes nothing.
+-- `samples::marks_about_the_centre` stays in the array. Assumes nothing.
 use native.Mathlib.Omega.{arith}
 use Prim.Native.Nat.{_-_, _≤_}
 use mathlib.Core.Path.{_≡_, refl, _∙_}
 use lib.ListN.{length, length-set}
-use Rattle.samples.proofs.five.Statement.{statement}
-use Rattle.samples.proofs.five.Tie as tie
+use Rattle.samples.proofs.marks_about_the_centre.Statement.{statement}
+use Rattle.samples.proofs.marks_about_the_centre.Tie as tie
 
 abbrev Inv-loop : tie.InvT-loop
-Inv-loop mode labels₀ n₀ labels n = (n ≤ 125) × (125 ≡ length labels)
+Inv-loop labels₀ n₀ labels n = (n ≤ 125) × (125 ≡ length labels)
 
 abbrev μ-loop : tie.MeasureT-loop
-μ-loop mode labels₀ n₀ labels n = 125 - n
+μ-loop labels₀ n₀ labels n = 125 - n
 
 loop-holds : tie.Need-loop-holds Inv-loop μ-loop
 loop-holds c = (omega arith, refl)
@@ -30,17 +30,11 @@ loop-less c = omega (arith, c .before .loop-test .taken)
 loop-again : tie.Need-loop-again Inv-loop μ-loop
 loop-again c = (omega (arith, c .before .loop-test .taken), c .before .before .loop .inv .1 ∙ (simp length-set))
 
-slice-aggregate-fill-and-show : tie.Need-slice-aggregate-fill-and-show Inv-loop μ-loop
-slice-aggregate-fill-and-show c = omega (arith, c .before .before .loop .inv .1)
-
-fill-and-show-requires : tie.Need-fill-and-show-requires Inv-loop μ-loop
-fill-and-show-requires c κs = omega arith
-
 returns : tie.Need-returns Inv-loop μ-loop
-returns c = tt
+returns c = c .before .loop .inv .1
 
-pub five-spec : {M : Type 1} → statement M
-five-spec =
+pub marks-about-the-centre-spec : {M : Type 1} → statement M
+marks-about-the-centre-spec =
     tie.close
     (tie.spec
     Inv-loop
@@ -51,6 +45,4 @@ five-spec =
     add-n
     loop-less
     loop-again
-    slice-aggregate-fill-and-show
-    fill-and-show-requires
     returns)
