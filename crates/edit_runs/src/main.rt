@@ -50,7 +50,7 @@ struct Tally {
 
 // A random number below n, or 0 if n is 0; x is the last one drawn.
 fn below(x: &mut u64, n: usize) -> usize {
-    let y = (*x % 4294967296 * 1664525 + 1013904223) % 4294967296;
+    let y = replay::drawn(*x);
     *x = y;
     if n == 0 {
         return 0;
@@ -68,10 +68,6 @@ fn put(labels: &mut [u8], n: usize, label: u8) {
     if n < labels.len() {
         labels[n] = label;
     }
-}
-
-fn mark_if(surface: bool) -> u8 {
-    if surface { 8 } else { 0 }
 }
 
 // The product, for numbers as small as those of a grid.
@@ -154,7 +150,7 @@ fn axis(f: Family, x: &mut u64) -> usize {
 fn random_marks(labels: &mut [u8], n: usize, x: &mut u64, tenths: usize) {
     let mut i = 0usize;
     while i < n {
-        let v = mark_if(below(x, 10) < tenths);
+        let v = replay::label_if(below(x, 10) < tenths);
         put(labels, i, v);
         i += 1;
     }
@@ -180,7 +176,7 @@ fn shell_marks(labels: &mut [u8], n: usize, r: Axes, x: &mut u64, some: usize) {
     while i < n {
         let there = some / 3 % 3 <= below(x, 512);
         let wall = depth(r, cell_of(r, i)) % 3 == some % 3;
-        put(labels, i, mark_if(there & wall));
+        put(labels, i, replay::label_if(there & wall));
         i += 1;
     }
 }
@@ -307,7 +303,7 @@ fn rule(labels: &[u8], r: Axes, c: Cell, opening: bool) -> Checked {
 fn surface_of(before: &[u8], map: &mut [u8], n: usize) {
     let mut i = 0usize;
     while i < n {
-        put(map, i, mark_if(label_at(before, i) == 8));
+        put(map, i, replay::label_if(label_at(before, i) == 8));
         i += 1;
     }
 }
@@ -315,7 +311,11 @@ fn surface_of(before: &[u8], map: &mut [u8], n: usize) {
 // The flood of the surface cells as the call leaves them.
 fn fresh(map: &mut [u8], before: &[u8], n: usize, r: Axes, call: Call) {
     surface_of(before, map, n);
-    put(map, number_of(r, call.cell), mark_if(!call.opening));
+    put(
+        map,
+        number_of(r, call.cell),
+        replay::label_if(!call.opening),
+    );
     flood(map, n, r);
 }
 

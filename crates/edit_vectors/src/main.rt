@@ -31,47 +31,6 @@ struct Tally {
 
 // ---- labels before the calls
 
-fn label_if(surface: bool) -> u8 {
-    if surface { 8 } else { 0 }
-}
-
-fn bit(byte: u8, n: usize) -> bool {
-    byte >> (n % 8) & 1 == 1
-}
-
-// Kind 0: cell i is bit i % 8 of byte i / 8.
-fn bits(s: &[u8], from: usize, n: usize) -> [u8; 65536]
-    requires { ⌜ (8 * from + n ≤ 8 * length (now s)) × (n ≤ 65536) ⌝ }
-    ensures { λ r. ⌜ 65536 ≡ length r ⌝ }
-{
-    let mut out = [0u8; 65536];
-    let mut i = 0usize;
-    while i < n {
-        out[i] = label_if(bit(s[from + i / 8], i));
-        i += 1;
-    }
-    out
-}
-
-// Kind 2: cell i is byte i.
-fn bytes(s: &[u8], from: usize, n: usize) -> [u8; 65536]
-    requires { ⌜ (from + n ≤ length (now s)) × (n ≤ 65536) ⌝ }
-    ensures { λ r. ⌜ 65536 ≡ length r ⌝ }
-{
-    let mut out = [0u8; 65536];
-    let mut i = 0usize;
-    while i < n {
-        out[i] = s[from + i];
-        i += 1;
-    }
-    out
-}
-
-// The random number after x.
-fn drawn(x: u64) -> u64 {
-    (x % 4294967296 * 1664525 + 1013904223) % 4294967296
-}
-
 // The label of a random number: for kind 1 surface or none, about b of 256 surface; for kind 3 about b of 256
 // are 8 and the next c are 7.
 fn label_of(kind: u32, x: u64, b: u32, c: u32) -> u8 {
@@ -94,7 +53,7 @@ fn random(kind: u32, a: u32, b: u32, c: u32, n: usize) -> [u8; 65536]
     let mut x = a as u64;
     let mut i = 0usize;
     while i < n {
-        x = drawn(x);
+        x = replay::drawn(x);
         out[i] = label_of(kind, x, b, c);
         i += 1;
     }
@@ -281,8 +240,8 @@ fn random_edits(seed: u32, count: usize, labels: &mut [u8], r: Axes) -> Tally {
     let mut x = seed as u64;
     let mut i = 0usize;
     while i < count {
-        let y = drawn(x);
-        x = drawn(y);
+        let y = replay::drawn(x);
+        x = replay::drawn(y);
         t = drawn_edit(t, y, x, labels, r);
         i += 1;
     }
@@ -442,7 +401,7 @@ fn bits_case(s: &[u8], at: usize, n: usize, r: Axes) -> usize
     if s.len() - from < size {
         return s.len();
     }
-    one_grid(s, at, from + size, bits(s, from, n), n, r)
+    one_grid(s, at, from + size, replay::marks_of(s, from, n), n, r)
 }
 
 // The same of kind 2.
@@ -455,7 +414,7 @@ fn bytes_case(s: &[u8], at: usize, n: usize, r: Axes) -> usize
     if s.len() - from < size {
         return s.len();
     }
-    one_grid(s, at, from + size, bytes(s, from, n), n, r)
+    one_grid(s, at, from + size, replay::labels_of(s, from, n), n, r)
 }
 
 // The same of kinds 1 and 3.

@@ -23,33 +23,6 @@ struct Tally {
 
 // ---- labels before a call
 
-fn label_if(surface: bool) -> u8 {
-    if surface { 8 } else { 0 }
-}
-
-fn bit(byte: u8, n: usize) -> bool {
-    byte >> (n % 8) & 1 == 1
-}
-
-// Kind 0: cell i is bit i % 8 of byte i / 8.
-fn bits(s: &[u8], from: usize, n: usize) -> [u8; 65536]
-    requires { ⌜ (8 * from + n ≤ 8 * length (now s)) × (n ≤ 65536) ⌝ }
-    ensures { λ r. ⌜ 65536 ≡ length r ⌝ }
-{
-    let mut out = [0u8; 65536];
-    let mut i = 0usize;
-    while i < n {
-        out[i] = label_if(bit(s[from + i / 8], i));
-        i += 1;
-    }
-    out
-}
-
-// The random number after x.
-fn drawn(x: u64) -> u64 {
-    (x % 4294967296 * 1664525 + 1013904223) % 4294967296
-}
-
 // Kind 1: a random number for each cell, from the seed a on; about b of 256 cells are surface.
 fn random(a: u32, b: u32, n: usize) -> [u8; 65536]
     requires { ⌜ n ≤ 65536 ⌝ }
@@ -59,8 +32,8 @@ fn random(a: u32, b: u32, n: usize) -> [u8; 65536]
     let mut x = a as u64;
     let mut i = 0usize;
     while i < n {
-        x = drawn(x);
-        out[i] = label_if(x / 65536 % 256 < b as u64);
+        x = replay::drawn(x);
+        out[i] = replay::label_if(x / 65536 % 256 < b as u64);
         i += 1;
     }
     out
@@ -74,22 +47,8 @@ fn numbered(m: usize) -> [u8; 12]
     let mut rest = m;
     let mut i = 0usize;
     while i < 12 {
-        out[i] = label_if(rest % 2 == 1);
+        out[i] = replay::label_if(rest % 2 == 1);
         rest = rest / 2;
-        i += 1;
-    }
-    out
-}
-
-// Kind 3: cell i is byte i.
-fn bytes(s: &[u8], from: usize, n: usize) -> [u8; 65536]
-    requires { ⌜ (from + n ≤ length (now s)) × (n ≤ 65536) ⌝ }
-    ensures { λ r. ⌜ 65536 ≡ length r ⌝ }
-{
-    let mut out = [0u8; 65536];
-    let mut i = 0usize;
-    while i < n {
-        out[i] = s[from + i];
         i += 1;
     }
     out
@@ -233,7 +192,7 @@ fn bits_case(s: &[u8], from: usize, n: usize, r: Axes) -> usize
     if s.len() - from < size {
         return s.len();
     }
-    each_mode(bits(s, from, n), n, r);
+    each_mode(replay::marks_of(s, from, n), n, r);
     from + size
 }
 
@@ -246,7 +205,7 @@ fn bytes_case(s: &[u8], from: usize, n: usize, r: Axes) -> usize
     if s.len() - from < size {
         return s.len();
     }
-    each_mode(bytes(s, from, n), n, r);
+    each_mode(replay::labels_of(s, from, n), n, r);
     from + size
 }
 

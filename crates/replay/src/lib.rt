@@ -1,7 +1,7 @@
 // What the test programs share: words of a stored input, and answers written as text. The text is
 // tested by the programs' runs; here it is only proved that nothing faults.
 ghost use mathlib.Core.Path.{_≡_};
-ghost use Prim.Native.Nat.{_+_, _≤_};
+ghost use Prim.Native.Nat.{_+_, _*_, _≤_};
 ghost use lib.Ieee.{binary32, ofBits};
 ghost use lib.ListN.{length};
 ghost use Rattle.replay.specs.Words.{wordAt};
@@ -142,4 +142,48 @@ pub fn sized(s: Sized) {
             text(b"\n");
         }
     }
+}
+
+// ---- labels of a case
+
+// A mark.
+pub fn label_if(surface: bool) -> u8 {
+    if surface { 8 } else { 0 }
+}
+
+fn bit(byte: u8, n: usize) -> bool {
+    byte >> (n % 8) & 1 == 1
+}
+
+// Marks, a bit for each cell: cell i is bit i % 8 of byte i / 8.
+pub fn marks_of(s: &[u8], from: usize, n: usize) -> [u8; 65536]
+    requires { ⌜ (8 * from + n ≤ 8 * length (now s)) × (n ≤ 65536) ⌝ }
+    ensures { λ r. ⌜ 65536 ≡ length r ⌝ }
+{
+    let mut out = [0u8; 65536];
+    let mut i = 0usize;
+    while i < n {
+        out[i] = label_if(bit(s[from + i / 8], i));
+        i += 1;
+    }
+    out
+}
+
+// Labels, a byte for each cell.
+pub fn labels_of(s: &[u8], from: usize, n: usize) -> [u8; 65536]
+    requires { ⌜ (from + n ≤ length (now s)) × (n ≤ 65536) ⌝ }
+    ensures { λ r. ⌜ 65536 ≡ length r ⌝ }
+{
+    let mut out = [0u8; 65536];
+    let mut i = 0usize;
+    while i < n {
+        out[i] = s[from + i];
+        i += 1;
+    }
+    out
+}
+
+// The random number after x, of 32 bits.
+pub fn drawn(x: u64) -> u64 {
+    (x % 4294967296 * 1664525 + 1013904223) % 4294967296
 }

@@ -18,8 +18,8 @@ loop-holds c = search needs
 below-requires : tie.Need-below-requires Inv-loop μ-loop
 below-requires c κs = search needs
 
-mark-if-requires : tie.Need-mark-if-requires Inv-loop μ-loop
-mark-if-requires c κs = search needs
+label-if-requires : tie.Need-label-if-requires Inv-loop μ-loop
+label-if-requires c κs = search needs
 
 put-requires : tie.Need-put-requires Inv-loop μ-loop
 put-requires c κs = search needs
@@ -47,7 +47,7 @@ random-marks-spec =
     μ-loop
     loop-holds
     below-requires
-    mark-if-requires
+    label-if-requires
     put-requires
     add-i
     loop-less

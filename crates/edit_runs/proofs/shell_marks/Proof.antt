@@ -24,8 +24,8 @@ cell-of-requires c κs = search needs
 depth-requires : tie.Need-depth-requires Inv-loop μ-loop
 depth-requires c κs = search needs
 
-mark-if-requires : tie.Need-mark-if-requires Inv-loop μ-loop
-mark-if-requires c κs = search needs
+label-if-requires : tie.Need-label-if-requires Inv-loop μ-loop
+label-if-requires c κs = search needs
 
 put-requires : tie.Need-put-requires Inv-loop μ-loop
 put-requires c κs = search needs
@@ -55,7 +55,7 @@ shell-marks-spec =
     below-requires
     cell-of-requires
     depth-requires
-    mark-if-requires
+    label-if-requires
     put-requires
     add-i
     loop-less

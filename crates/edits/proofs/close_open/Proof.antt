@@ -17,25 +17,25 @@ slice-write-l : tie.Need-slice-write-l
 slice-write-l c = omega (arith, c .before .number .ensures, num-lt (c .before .before .before .args .r) (c .before .before .before .args .c) (c .before .before .before .pre .1 .0), c .before .before .before .pre .0 .0 .size)
 
 same-length : tie.Need-same-length
-same-length c = length-set (c .before .before .before .before .args .l .now) (c .before .before .number .result) 8
+same-length c = length-set (c .before .before .before .before .args .l .now) (c .before .before .number .result) _
 
 returns : tie.Need-returns
 returns c = closed-plain _ _ _ (c .before .before .before .before .pre .0 .0) (c .before .before .before .before .pre .0 .1) (c .before .before .before .before .pre .1 .0) _ (c .before .before .number .ensures) (c .if1 .taken) (c .before .before .before .before .pre .1 .1)
 
 settle-all-requires : tie.Need-settle-all-requires
-settle-all-requires c κs = (sheet-kept _ _ _ (length-set (c .before .before .before .before .before .args .l .now) (c .before .before .before .number .result) 8) (c .before .before .before .before .before .pre .0 .0), (c .before .before .before .before .before .pre .1 .0, c .before .before .before .number .ensures))
+settle-all-requires c κs = (sheet-kept _ _ _ (length-set (c .before .before .before .before .before .args .l .now) (c .before .before .before .number .result) _) (c .before .before .before .before .before .pre .0 .0), (c .before .before .before .before .before .pre .1 .0, c .before .before .before .number .ensures))
 
 settle-all-requires-2 : tie.Need-settle-all-requires-2
-settle-all-requires-2 c κs = (sheet-kept _ _ _ (c .before .before .before .settle-all .ensures .size ∙ length-set (c .before .before .before .before .before .before .before .before .before .args .l .now) (c .before .before .before .before .before .before .before .number .result) 8) (c .before .before .before .before .before .before .before .before .before .pre .0 .0), (c .before .before .before .before .before .before .before .before .before .pre .1 .0, c .before .before .before .before .before .before .before .number .ensures))
+settle-all-requires-2 c κs = (sheet-kept _ _ _ (c .before .before .before .settle-all .ensures .size ∙ length-set (c .before .before .before .before .before .before .before .before .before .args .l .now) (c .before .before .before .before .before .before .before .number .result) _) (c .before .before .before .before .before .before .before .before .before .pre .0 .0), (c .before .before .before .before .before .before .before .before .before .pre .1 .0, c .before .before .before .before .before .before .before .number .ensures))
 
 restore-all-requires : tie.Need-restore-all-requires
-restore-all-requires c κs = (sheet-kept _ _ _ (c .before .before .before .settle-all2 .ensures .size ∙ c .before .before .before .before .before .before .before .settle-all .ensures .size ∙ length-set (c .before .before .before .before .before .before .before .before .before .before .before .before .before .args .l .now) (c .before .before .before .before .before .before .before .before .before .before .before .number .result) 8) (c .before .before .before .before .before .before .before .before .before .before .before .before .before .pre .0 .0), (c .before .before .before .before .before .before .before .before .before .before .before .before .before .pre .1 .0, c .before .before .before .before .before .before .before .before .before .before .before .number .ensures))
+restore-all-requires c κs = (sheet-kept _ _ _ (c .before .before .before .settle-all2 .ensures .size ∙ c .before .before .before .before .before .before .before .settle-all .ensures .size ∙ length-set (c .before .before .before .before .before .before .before .before .before .before .before .before .before .args .l .now) (c .before .before .before .before .before .before .before .before .before .before .before .number .result) _) (c .before .before .before .before .before .before .before .before .before .before .before .before .before .pre .0 .0), (c .before .before .before .before .before .before .before .before .before .before .before .before .before .pre .1 .0, c .before .before .before .before .before .before .before .before .before .before .before .number .ensures))
 
 add-result : tie.Need-add-result
 add-result c = omega (arith, c .before .before .before .before .before .before .settle-all2 .ensures .few)
 
 same-length-2 : tie.Need-same-length-2
-same-length-2 c = c .before .before .restore-all .kept .0 ∙ c .before .before .before .before .before .before .settle-all2 .kept .0 ∙ c .before .before .before .before .before .before .before .before .before .before .settle-all .kept .0 ∙ length-set (c .before .before .before .before .before .before .before .before .before .before .before .before .before .before .before .before .args .l .now) (c .before .before .before .before .before .before .before .before .before .before .before .before .before .before .number .result) 8
+same-length-2 c = c .before .before .restore-all .kept .0 ∙ c .before .before .before .before .before .before .settle-all2 .kept .0 ∙ c .before .before .before .before .before .before .before .before .before .before .settle-all .kept .0 ∙ length-set (c .before .before .before .before .before .before .before .before .before .before .before .before .before .before .before .before .args .l .now) (c .before .before .before .before .before .before .before .before .before .before .before .before .before .before .number .result) _
 
 returns-2 : tie.Need-returns-2
 returns-2 c = closed-steps _ _ _ (c .before .before .before .before .before .before .before .before .before .before .before .before .before .before .before .before .pre .0 .0) (c .before .before .before .before .before .before .before .before .before .before .before .before .before .before .before .before .pre .0 .1) (c .before .before .before .before .before .before .before .before .before .before .before .before .before .before .before .before .pre .1 .0) _ (c .before .before .before .before .before .before .before .before .before .before .before .before .before .before .number .ensures) (c .before .before .before .before .before .before .before .before .before .before .before .before .if1 .left) _ _ _ _ _ (c .before .before .before .before .before .before .before .before .before .before .settle-all .ensures) (c .before .before .before .before .before .before .settle-all2 .ensures) (c .before .before .restore-all .ensures)

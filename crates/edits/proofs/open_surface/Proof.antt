@@ -25,7 +25,7 @@ slice-write-l : tie.Need-slice-write-l
 slice-write-l c = omega (arith, c .before .before .before .number .ensures, num-lt (c .before .before .before .before .before .args .r) (c .before .before .before .before .before .args .c) (c .before .before .before .before .before .pre .1 .0), c .before .before .before .before .before .pre .0 .size)
 
 same-length-2 : tie.Need-same-length-2
-same-length-2 c = length-set (c .before .before .before .before .before .args .l .now) (c .before .before .before .number .result) 7
+same-length-2 c = length-set (c .before .before .before .before .before .args .l .now) (c .before .before .before .number .result) _
 
 returns-2 : tie.Need-returns-2
 returns-2 c = opened-alone _ _ _ (c .before .before .before .before .before .pre .0) (c .before .before .before .before .before .pre .1 .0) (c .before .before .before .before .before .pre .1 .1) _ (c .before .before .before .number .ensures) (c .before .meets-air .ensures .1 (c .if1 .left))

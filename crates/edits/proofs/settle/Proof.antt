@@ -28,7 +28,7 @@ slice-write-l : tie.Need-slice-write-l
 slice-write-l c = seen-place _ _ _ _ _ (c .before .before .before .before .before .before .before .before .before .pre .1 .0 .0) (c .before .before .before .before .before .before .look .ensures) (c .before .before .before .before .if1 .left) _ (c .before .before .before .neighbour .ensures) (c .before .before .before .before .before .before .before .before .before .pre .0 .size)
 
 same-length-2 : tie.Need-same-length-2
-same-length-2 c = length-set (c .before .before .before .before .before .before .before .before .before .args .l .now) (c .before .before .before .before .before .before .look .result .n) (c .before .before .before .before .before .before .before .before .before .args .d)
+same-length-2 c = length-set (c .before .before .before .before .before .before .before .before .before .args .l .now) (c .before .before .before .before .before .before .look .result .n) _
 
 returns-2 : tie.Need-returns-2
 returns-2 c = let a = c .before .before .before .before .before .before .before .before .before .args in settled-found _ _ (c .before .before .before .before .before .before .before .before .before .pre .1 .0 .0) _ (c .before .before .before .before .before .before .before .before .before .pre .1 .1) (c .before .before .before .before .before .before .before .before .before .args .walks) _ (c .before .before .before .before .before .before .before .before .before .pre .0) (seen-some _ _ _ _ _ (c .before .before .before .before .before .before .before .before .before .pre .1 .0 .0) (c .before .before .before .before .before .before .look .ensures) (c .before .before .before .before .if1 .left)) (seen-label _ _ _ _ _ (c .before .before .before .before .before .before .before .before .before .pre .1 .0 .0) (c .before .before .before .before .before .before .look .ensures) (c .before .before .before .before .if1 .left)) _ (c .before .before .before .before .before .before .look .ensures .number (seen-some _ _ _ _ _ (c .before .before .before .before .before .before .before .before .before .pre .1 .0 .0) (c .before .before .before .before .before .before .look .ensures) (c .before .before .before .before .if1 .left))) (subst (λ (x : Cell). Leads (a .r) (a .l .now) x) (c .before .before .before .neighbour .ensures) (c .before .finds-way .ensures (c .if2 .taken)))

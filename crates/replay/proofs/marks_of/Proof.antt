@@ -1,10 +1,10 @@
--- `fill_vectors::bits` stays in the slice and in the array. Assumes nothing.
+-- `replay::marks_of` stays in the slice and in the array. Assumes nothing.
 use native.Mathlib.Omega.{arith}
 use Prim.Native.Nat.{_-_, _≤_}
 use mathlib.Core.Path.{_≡_, refl, _∙_}
 use lib.ListN.{length, length-set}
-use Rattle.fill_vectors.proofs.bits.Statement.{statement}
-use Rattle.fill_vectors.proofs.bits.Tie as tie
+use Rattle.replay.proofs.marks_of.Statement.{statement}
+use Rattle.replay.proofs.marks_of.Tie as tie
 
 abbrev Inv-loop : tie.InvT-loop
 Inv-loop s from n out₀ i₀ out i = (i ≤ n) × (65536 ≡ length out)
@@ -42,8 +42,8 @@ loop-again c = (omega arith, c .before .before .before .before .loop .inv .1 ∙
 returns : tie.Need-returns Inv-loop μ-loop
 returns c = c .before .loop .inv .1
 
-pub bits-spec : {M : Type 1} → statement M
-bits-spec =
+pub marks-of-spec : {M : Type 1} → statement M
+marks-of-spec =
     tie.close
     (tie.spec
     Inv-loop

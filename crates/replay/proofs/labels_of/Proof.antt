@@ -1,10 +1,10 @@
--- `edit_vectors::bytes` stays in the slice and in the array. Assumes nothing.
+-- `replay::labels_of` stays in the slice and in the array. Assumes nothing.
 use native.Mathlib.Omega.{arith}
 use Prim.Native.Nat.{_-_, _≤_}
 use mathlib.Core.Path.{_≡_, refl, _∙_}
 use lib.ListN.{length, length-set}
-use Rattle.edit_vectors.proofs.bytes.Statement.{statement}
-use Rattle.edit_vectors.proofs.bytes.Tie as tie
+use Rattle.replay.proofs.labels_of.Statement.{statement}
+use Rattle.replay.proofs.labels_of.Tie as tie
 
 abbrev Inv-loop : tie.InvT-loop
 Inv-loop s from n out₀ i₀ out i = (i ≤ n) × (65536 ≡ length out)
@@ -36,8 +36,8 @@ loop-again c = (omega arith, c .before .before .loop .inv .1 ∙ (simp length-se
 returns : tie.Need-returns Inv-loop μ-loop
 returns c = c .before .loop .inv .1
 
-pub bytes-spec : {M : Type 1} → statement M
-bytes-spec =
+pub labels-of-spec : {M : Type 1} → statement M
+labels-of-spec =
     tie.close
     (tie.spec
     Inv-loop
