@@ -24,7 +24,7 @@ use Rattle.grid.proofs.Paths.{joined-kind}
 use Rattle.fill.specs.declared.Counts.{Counts}
 use Rattle.fill.specs.declared.Mode.the-variants.{Flood}
 use Rattle.fill.specs.Modes.{marks, fillFault, Means}
-use Rattle.fill.proofs.Passes.{map-at}
+use Rattle.grid.proofs.Passes.{map-at}
 use Rattle.edits.specs.declared.Editing.{Editing}
 use Rattle.edits.specs.declared.Editing.the-variants.{Changed, Refused}
 use Rattle.edits.specs.Edits.{Edit, opening, closing, outcome, editFault, Opens, aired, unreached, alone, other, Closes, lid, sealed, stays, Becomes, changed, Edited}

@@ -17,7 +17,8 @@ use Rattle.fill.specs.declared.Filling.{Filling}
 use Rattle.fill.specs.declared.Filling.the-variants.{Filled, Refused}
 use Rattle.fill.specs.declared.Mode.{Mode}
 use Rattle.fill.specs.declared.Mode.the-variants.{SurfaceOnly, Flood, Cavities}
-use Rattle.fill.specs.Phases.{becomes, outward, Alternate}
+use Rattle.fill.specs.Phases.{outward, Alternate}
+use Rattle.grid.specs.Passes.{becomes}
 use Rattle.fill.specs.Modes.{outcome, marks, fillFault, left, Scans, Fills, Means}
 use Rattle.fill.proofs.Swings.{alternate-one}
 

@@ -28,10 +28,11 @@ use Rattle.spread.proofs.Spreads.{spreads}
 use Rattle.fill.specs.declared.Counts.{Counts}
 use Rattle.fill.specs.declared.Mode.{Mode}
 use Rattle.fill.specs.declared.Mode.the-variants.{SurfaceOnly, Flood, Cavities}
-use Rattle.fill.specs.Phases.{becomes, seedOf, seeded, outward, phaseOf, Alternate, last, again, surfaceOnly, FloodRun, CavityRun}
+use Rattle.fill.specs.Phases.{seedOf, seeded, outward, phaseOf, Alternate, last, again, surfaceOnly, FloodRun, CavityRun}
+use Rattle.grid.specs.Passes.{becomes}
 use Rattle.fill.specs.Modes.{marks, isLeft, left, OthersOutside, SameSurface, Among, cavityLabels, Fills, Means}
 use Rattle.fill.specs.Passes.{Marks}
-use Rattle.fill.proofs.Passes.{map-at}
+use Rattle.grid.proofs.Passes.{map-at}
 use Rattle.fill.proofs.Swings.{outward-proper}
 
 -- ---- labels 0 and 8

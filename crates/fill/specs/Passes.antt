@@ -8,13 +8,7 @@ use lib.ListN.{length, getD}
 use Rattle.grid.specs.declared.Axes.{Axes}
 use Rattle.grid.specs.declared.Cell.{Cell}
 use Rattle.grid.specs.Grid.{cellNumbered, onBorder}
-use Rattle.fill.specs.Phases.{becomes}
-
--- the labels at the places from a up to, not including, b go by a rule of place and label, and the others stay
-pub record Within (a b : ℕ) (rule : ℕ → ℕ → ℕ) (before after : List ℕ) : Type 0 where
-  pub size : length after ≡ length before
-  pub passed : (n : ℕ) → a ≤ n → n < b → getD after n 0 ≡ rule n (getD before n 0)
-  pub others : (n : ℕ) → (n < a) ⊎ (b ≤ n) → getD after n 0 ≡ getD before n 0
+use Rattle.grid.specs.Passes.{becomes}
 
 -- the seeding as such a rule
 abbrev pub seedAt : Axes → ℕ → ℕ → ℕ

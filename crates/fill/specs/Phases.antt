@@ -9,13 +9,10 @@ use lib.Dec.{eqb, leb}
 use Rattle.grid.specs.declared.Axes.{Axes}
 use Rattle.grid.specs.declared.Cell.{Cell}
 use Rattle.grid.specs.Grid.{at, labelsBy, onBorder}
+use Rattle.grid.specs.Passes.{becomes}
 use Rattle.spread.specs.declared.Phase.{Phase}
 use Rattle.spread.specs.declared.Walkers.the-variants.{Nobody, Those}
 use Rattle.spread.specs.Run.{Run}
-
--- the labels from low to high become new, and another stays
-abbrev pub becomes : ℕ → ℕ → ℕ → ℕ → ℕ
-becomes low high new v = cond (leb low v && leb v high) new v
 
 -- "All border cells with label 0 become 1"
 abbrev pub seedOf : Axes → List ℕ → Cell → ℕ

@@ -7,9 +7,11 @@ ghost use Rattle.grid.specs.Answers.{Ends};
 ghost use Rattle.grid.specs.Grid.{InGrid, num, Sheet};
 ghost use Rattle.spread.specs.Run.{Run};
 ghost use Rattle.fill.specs.declared.Mode.the-variants.{SurfaceOnly, Flood, Cavities};
-ghost use Rattle.fill.specs.Phases.{becomes, seeded, outward, phaseOf, Alternate};
+ghost use Rattle.fill.specs.Phases.{seeded, outward, phaseOf, Alternate};
+ghost use Rattle.grid.specs.Passes.{becomes};
 ghost use Rattle.fill.specs.Modes.{outcome, marks, fillFault, left, Fills, Means};
-ghost use Rattle.fill.specs.Passes.{Within, seedAt, Alike, Marks};
+ghost use Rattle.fill.specs.Passes.{seedAt, Alike, Marks};
+ghost use Rattle.grid.specs.Passes.{Within};
 use grid::Axes;
 use grid::Cell;
 use grid::Checked;
@@ -37,31 +39,6 @@ pub enum Filling {
     Refused(Refusal),
 }
 
-// ---- passes in memory order
-
-fn turned(low: u8, high: u8, new: u8, label: u8) -> u8
-    ensures { λ v. ⌜ v ≡ becomes low high new label ⌝ }
-{
-    if (low <= label) & (label <= high) {
-        new
-    } else {
-        label
-    }
-}
-
-// The labels from `low` to `high` become `new`, at the places from `from` up to, not including, `to`.
-fn replace(labels: &mut [u8], from: usize, to: usize, low: u8, high: u8, new: u8)
-    requires { ⌜ (from ≤ to) × (to ≤ length (now labels)) ⌝ }
-    ensures { λ _. ⌜ Within from to (λ n. becomes low high new) (now (labels .entry)) (now (labels .exit)) ⌝ }
-{
-    let mut n = from;
-    while n < to {
-        let v = turned(low, high, new, labels[n]);
-        labels[n] = v;
-        n += 1;
-    }
-}
-
 // ---- seeding
 
 // Cells with consecutive numbers, all of them border cells or none, as c is.
@@ -71,7 +48,7 @@ fn seed_part(labels: &mut [u8], r: Axes, c: Cell, from: usize, to: usize)
     ensures { λ _. ⌜ Within from to (seedAt r) (now (labels .entry)) (now (labels .exit)) ⌝ }
 {
     if grid::on_border(r, c) {
-        replace(labels, from, to, 0, 0, 1);
+        grid::replace(labels, from, to, 0, 0, 1);
     }
 }
 
@@ -191,7 +168,7 @@ fn keep_surface(labels: &mut [u8], r: Axes) -> Counts
     ensures { λ n. ⌜ Fills SurfaceOnly r (now (labels .entry)) n (now (labels .exit)) ⌝ }
 {
     let len = labels.len();
-    replace(labels, 0, len, 0, 7, 6);
+    grid::replace(labels, 0, len, 0, 7, 6);
     Counts { scans: 0, left: 0 }
 }
 
@@ -203,7 +180,7 @@ fn fill_flood(labels: &mut [u8], r: Axes) -> Counts
     seed(labels, r);
     let p = outward_with(8);
     let scans = spread::run(labels, p, r);
-    replace(labels, 0, len, 0, 0, 7);
+    grid::replace(labels, 0, len, 0, 0, 7);
     Counts { scans, left: 0 }
 }
 
@@ -216,8 +193,8 @@ fn fill_cavities(labels: &mut [u8], r: Axes) -> Counts
     let p = outward_with(4);
     let first = spread::run(labels, p, r);
     let later = turns(labels, r);
-    replace(labels, 0, len, 4, 5, 8);
-    replace(labels, 0, len, 3, 3, 8);
+    grid::replace(labels, 0, len, 4, 5, 8);
+    grid::replace(labels, 0, len, 3, 3, 8);
     let left = grid::count_label(labels, 0);
     Counts {
         scans: first + later,

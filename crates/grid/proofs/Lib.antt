@@ -5,3 +5,4 @@ pub mod Floods
 pub mod Checks
 pub mod Ways
 pub mod Counts
+pub mod Passes

@@ -6,3 +6,4 @@ pub mod Flood
 pub mod Checks
 pub mod Ways
 pub mod Counts
+pub mod Passes

@@ -2,10 +2,13 @@
 // checks 8, 9 and 11 that calls share; and how many cells have a label.
 ghost use mathlib.Core.Bool.{cond};
 ghost use mathlib.Core.Path.{_≡_};
+ghost use Prim.Native.Nat.{_≤_};
+ghost use lib.ListN.{length};
 ghost use Rattle.grid.specs.Answers.{faultAt, _andThen_};
 ghost use Rattle.grid.specs.First.{firstNot, every};
 ghost use Rattle.grid.specs.Grid.{num, Sound, InGrid, onBorder};
 ghost use Rattle.grid.specs.Counts.{countOf};
+ghost use Rattle.grid.specs.Passes.{becomes, Within};
 ghost use Rattle.grid.specs.Checks.{badAxis, axesFault, gridFault, takes, labelsFault, mapFault};
 
 // How many cells the grid has along i, j and k.
@@ -198,4 +201,27 @@ pub fn count_label(labels: &[u8], label: u8) -> usize
         i += 1;
     }
     n
+}
+
+fn turned(low: u8, high: u8, new: u8, label: u8) -> u8
+    ensures { λ v. ⌜ v ≡ becomes low high new label ⌝ }
+{
+    if (low <= label) & (label <= high) {
+        new
+    } else {
+        label
+    }
+}
+
+// The labels from `low` to `high` become `new`, at the places from `from` up to, not including, `to`.
+pub fn replace(labels: &mut [u8], from: usize, to: usize, low: u8, high: u8, new: u8)
+    requires { ⌜ (from ≤ to) × (to ≤ length (now labels)) ⌝ }
+    ensures { λ _. ⌜ Within from to (λ n. becomes low high new) (now (labels .entry)) (now (labels .exit)) ⌝ }
+{
+    let mut n = from;
+    while n < to {
+        let v = turned(low, high, new, labels[n]);
+        labels[n] = v;
+        n += 1;
+    }
 }

@@ -8,8 +8,10 @@ use lib.ListN.{length}
 use Rattle.grid.proofs.Cells.{cells-max, sheet-kept}
 use Rattle.spread.specs.declared.Phase.{Phase}
 use Rattle.spread.specs.Run.{Run, Proper}
-use Rattle.fill.specs.Phases.{becomes, seeded, outward, CavityRun}
-use Rattle.fill.proofs.Passes.{within-map, surfaces-back}
+use Rattle.fill.specs.Phases.{seeded, outward, CavityRun}
+use Rattle.grid.specs.Passes.{becomes}
+use Rattle.fill.proofs.Passes.{surfaces-back}
+use Rattle.grid.proofs.Passes.{within-map}
 use Rattle.fill.proofs.Swings.{outward-proper, cavities-few}
 use Rattle.fill.proofs.Meaning.{seeded-size}
 use Rattle.fill.proofs.fill_cavities.Statement.{statement}

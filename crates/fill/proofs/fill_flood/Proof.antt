@@ -7,8 +7,9 @@ use native.Mathlib.Omega.{arith}
 use Rattle.spread.specs.declared.Phase.{Phase}
 use Rattle.spread.specs.Run.{Run, Proper}
 use Rattle.grid.proofs.Cells.{sheet-kept}
-use Rattle.fill.specs.Phases.{becomes, seeded, FloodRun}
-use Rattle.fill.proofs.Passes.{within-map}
+use Rattle.fill.specs.Phases.{seeded, FloodRun}
+use Rattle.grid.specs.Passes.{becomes}
+use Rattle.grid.proofs.Passes.{within-map}
 use Rattle.fill.proofs.Swings.{outward-proper}
 use Rattle.fill.proofs.Meaning.{flood-left}
 use Rattle.fill.proofs.fill_flood.Statement.{statement}

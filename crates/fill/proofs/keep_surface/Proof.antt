@@ -2,9 +2,10 @@
 use mathlib.Core.Path.{_≡_, refl, sym, ap, _∙_}
 use mathlib.Core.List.{map}
 use native.Mathlib.Omega.{arith}
-use Rattle.fill.specs.Phases.{becomes, surfaceOnly}
+use Rattle.fill.specs.Phases.{surfaceOnly}
+use Rattle.grid.specs.Passes.{becomes}
 use Rattle.fill.specs.Modes.{left}
-use Rattle.fill.proofs.Passes.{within-map}
+use Rattle.grid.proofs.Passes.{within-map}
 use Rattle.fill.proofs.Meaning.{map-marks, surface-only-left}
 use Rattle.fill.proofs.keep_surface.Statement.{statement}
 use Rattle.fill.proofs.keep_surface.Tie as tie

@@ -6,8 +6,10 @@ use native.Mathlib.Omega.{arith}
 use Rattle.grid.specs.declared.Axes.{Axes}
 use Rattle.grid.specs.Grid.{cells}
 use Rattle.grid.proofs.Cells.{sheet-kept}
-use Rattle.fill.specs.Passes.{Within, seedAt}
-use Rattle.fill.proofs.Passes.{within-none, within-then, within-seeded}
+use Rattle.fill.specs.Passes.{seedAt}
+use Rattle.grid.specs.Passes.{Within}
+use Rattle.fill.proofs.Passes.{within-seeded}
+use Rattle.grid.proofs.Passes.{within-none, within-then}
 use Rattle.fill.proofs.seed.Statement.{statement}
 use Rattle.fill.proofs.seed.Tie as tie
 

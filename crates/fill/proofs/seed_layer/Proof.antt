@@ -5,8 +5,10 @@ use native.Mathlib.Nat.{add-mul, one-mul, zero-mul, mul-comm}
 use native.Mathlib.Omega.{arith}
 use Rattle.grid.specs.Grid.{InGrid, num}
 use Rattle.grid.proofs.Cells.{cells-max, sheet-kept}
-use Rattle.fill.specs.Passes.{Within, seedAt}
-use Rattle.fill.proofs.Passes.{within-none, within-then, row-fits}
+use Rattle.fill.specs.Passes.{seedAt}
+use Rattle.grid.specs.Passes.{Within}
+use Rattle.fill.proofs.Passes.{row-fits}
+use Rattle.grid.proofs.Passes.{within-none, within-then}
 use Rattle.fill.proofs.seed_layer.Statement.{statement}
 use Rattle.fill.proofs.seed_layer.Tie as tie
 

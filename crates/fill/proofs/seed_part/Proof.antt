@@ -1,9 +1,9 @@
 -- `fill::seed_part` meets its contract: the cells are border cells or not, as c is. Assumes nothing.
 use mathlib.Core.Bool.{Bool, cond}
 use mathlib.Core.Path.{sym, ap, _∙_}
-use Rattle.fill.specs.Phases.{becomes}
+use Rattle.grid.specs.Passes.{becomes}
 use Rattle.fill.specs.Passes.{seedAt}
-use Rattle.fill.proofs.Passes.{within-as, within-idle}
+use Rattle.grid.proofs.Passes.{within-as, within-idle}
 use Rattle.fill.proofs.seed_part.Statement.{statement}
 use Rattle.fill.proofs.seed_part.Tie as tie
 

@@ -3,8 +3,10 @@ use mathlib.Core.Path.{_≡_, subst, _∙_}
 use Prim.Native.Nat.{ℕ, _+_, _-_}
 use native.Mathlib.Omega.{arith}
 use Rattle.grid.proofs.Cells.{cells-max}
-use Rattle.fill.specs.Passes.{Within, seedAt}
-use Rattle.fill.proofs.Passes.{within-then, row-fits, one-alike, between-alike}
+use Rattle.fill.specs.Passes.{seedAt}
+use Rattle.grid.specs.Passes.{Within}
+use Rattle.fill.proofs.Passes.{row-fits, one-alike, between-alike}
+use Rattle.grid.proofs.Passes.{within-then}
 use Rattle.fill.proofs.seed_row.Statement.{statement}
 use Rattle.fill.proofs.seed_row.Tie as tie
 

@@ -1,8 +1,8 @@
--- `fill::turned` meets its contract, by the test. Assumes nothing.
+-- `grid::turned` meets its contract, by the test. Assumes nothing.
 use mathlib.Core.Bool.{Bool, cond}
 use mathlib.Core.Path.{sym, ap}
-use Rattle.fill.proofs.turned.Statement.{statement}
-use Rattle.fill.proofs.turned.Tie as tie
+use Rattle.grid.proofs.turned.Statement.{statement}
+use Rattle.grid.proofs.turned.Tie as tie
 
 returns : tie.Need-returns
 returns c = sym (ap (λ (b : Bool). cond b (c .before .args .new) (c .before .args .label)) (c .if1 .taken))

@@ -1,12 +1,12 @@
--- `fill::replace` meets its contract: a pass that has come to n (`Within`). Assumes nothing.
+-- `grid::replace` meets its contract: a pass that has come to n (`Within`). Assumes nothing.
 use mathlib.Core.Path.{_≡_, subst}
 use Prim.Native.Nat.{ℕ, _-_, _≤_}
 use native.Mathlib.Omega.{arith}
-use Rattle.fill.specs.Phases.{becomes}
-use Rattle.fill.specs.Passes.{Within}
-use Rattle.fill.proofs.Passes.{within-none, within-more}
-use Rattle.fill.proofs.replace.Statement.{statement}
-use Rattle.fill.proofs.replace.Tie as tie
+use Rattle.grid.specs.Passes.{becomes}
+use Rattle.grid.specs.Passes.{Within}
+use Rattle.grid.proofs.Passes.{within-none, within-more}
+use Rattle.grid.proofs.replace.Statement.{statement}
+use Rattle.grid.proofs.replace.Tie as tie
 
 abbrev Inv-loop : tie.InvT-loop
 Inv-loop labels₀ from to low high new n₀ labels n = Within from n (λ n. becomes low high new) labels₀ labels × (from ≤ n) × (n ≤ to)
