@@ -12,7 +12,7 @@ use Rattle.grid.specs.declared.Axes.{Axes}
 use Rattle.grid.specs.declared.Cell.{Cell}
 use Rattle.grid.specs.Counts.{count, countOf}
 use Rattle.grid.specs.Grid.{cells, cellNumbered, InGrid, at}
-use Rattle.grid.proofs.Cells.{number-of-cell, cell-in}
+use Rattle.grid.proofs.Cells.{dec-eq, number-of-cell, cell-in}
 use Rattle.edits.specs.Edits.{changed}
 
 -- what holds of each cell's labels holds at each place
@@ -65,6 +65,19 @@ count-kept v (x ∷ m) (y ∷ f) e h =
     (λ q. omega (arith, t, ap (λ (z : ℕ). equal z v) q))
     (λ q. omega (arith, t, not-one x v (q .0), not-one y v (q .1)))
     (h 0 (omega arith))
+
+-- where every label d becomes v
+pub count-turned : (v d : ℕ) → (d ≡ v → ⊥) → (m f : List ℕ) → length f ≡ length m → ((i : ℕ) → i < length m → getD f i 0 ≡ cond (eqb (getD m i 0) d) v (getD m i 0))
+    → countOf v f ≡ countOf v m + countOf d m
+unfolding count
+count-turned v d z [] [] e h = refl
+count-turned v d z [] (y ∷ f) e h = omega arith
+count-turned v d z (x ∷ m) [] e h = omega arith
+count-turned v d z (x ∷ m) (y ∷ f) e h =
+    let t = count-turned v d z m f (omega (arith, e)) (λ i g. h (suc i) (omega arith)) in
+    dec-eq x d
+    (λ q. let new : y ≡ v = h 0 (omega arith) ∙ ap (λ (b : Bool). cond b v x) (eq-eqb x d q) in omega (arith, t, is-one y v new, is-one x d q, not-one x v (λ w. z (sym q ∙ w))))
+    (λ n. let same : y ≡ x = h 0 (omega arith) ∙ ap (λ (b : Bool). cond b v x) (ne-eqb x d n) in omega (arith, t, ap (λ (u : ℕ). equal u v) same, not-one x d n))
 
 -- one change more than from labels that have it already
 pub changed-one : (m f : List ℕ) (i w : ℕ) → i < length m → length f ≡ length m → (getD m i 0 ≡ w → ⊥) → getD f i 0 ≡ w → changed m f ≡ changed (set m i w) f + 1

@@ -1,32 +1,31 @@
 -- A closing: marks become 6 again, and what stands then is what 01 says. Assumes nothing.
-use mathlib.Core.Bool.{Bool, true, false, cond}
+use mathlib.Core.Bool.{Bool, true, false, cond, _&&_}
 use mathlib.Core.Logic.{_⊎_, inl, inr, ⊎-elim}
 use mathlib.Core.Path.{_≡_, refl, sym, ap, subst, _∙_}
 use mathlib.Core.List.{List}
-use Prim.Native.Nat.{ℕ, _+_, _<_, _≤_}
+use Prim.Native.Nat.{ℕ, _+_, _<_, _≤_, zero-le}
 use native.Mathlib.Omega.{arith}
 use lib.Dec.{eqb, ltb}
 use lib.ListN.{length, getD, set, length-set}
-use borrow.Author.Tests.{eq-eqb, ne-eqb, lt-ltb, le-ltb}
+use borrow.Author.Tests.{eq-eqb, ne-eqb, lt-ltb, le-ltb, le-leb, lt-leb}
 use Rattle.grid.specs.declared.Axes.{Axes}
 use Rattle.grid.specs.declared.Cell.{Cell}
 use Rattle.grid.specs.Counts.{countOf}
 use Rattle.grid.specs.Grid.{num, cells, InGrid, at, Sheet, Face}
+use Rattle.grid.specs.Passes.{becomes, Within}
 use Rattle.grid.specs.Paths.{starts, steps, Through}
 use Rattle.grid.specs.Ways.{room, beside}
 use Rattle.grid.proofs.Cells.{dec-eq, dec-cell, not-both, num-lt, here, there, stored}
 use Rattle.grid.proofs.First.{le-or-lt}
 use Rattle.grid.proofs.Paths.{joined-in, joined-trans, joined-more}
-use Rattle.grid.proofs.Ways.{beside-in, face-way}
+use Rattle.grid.proofs.Ways.{face-way}
 use Rattle.reach.specs.declared.Seen.{Seen}
-use Rattle.reach.specs.declared.Trip.{Trip}
-use Rattle.reach.specs.Walk.{wayOf, Sees, Ready, Walked}
-use Rattle.reach.proofs.Tests.{true-false}
+use Rattle.reach.specs.Walk.{wayOf, Sees}
 use Rattle.reach.proofs.Ways.{numberOf, way-numbered, numbered-low}
+use Rattle.edits.specs.declared.Settled.{Settled}
 use Rattle.edits.specs.Edits.{closing, lidded, HasWay, Closes, lid, sealed, stays, changed, Edited}
-use Rattle.edits.specs.Closing.{Map, FromBeside, Stands, as-was, marked, cut, Rooted, Roots, Standing, SettlesBelow, Restores, RestoresBelow}
+use Rattle.edits.specs.Closing.{Map, FromBeside, Stands, as-was, marked, cut, Rooted, Roots, Standing, Turns, SettlesBelow, Restores, RestoresBelow}
 use Rattle.edits.proofs.Changes.{by-place, changed-count, count-kept, changed-one}
-use Rattle.edits.proofs.Openings.{reached}
 use Rattle.edits.proofs.Settlings.{way-on, through-label, through-keep, root-keep}
 
 -- ---- marks become 6 again
@@ -58,30 +57,25 @@ module _ (r : Axes) (c : Cell) (hc : InGrid r c) (d : ℕ) (low : d < 6) (l : Li
         z (s .label (k .some) ∙ k .root)));
   }
 
-  module _ (some : 0 < room r (wayOf d) c) (own : at r l (beside (wayOf d) c) ≡ d) where
-    pub restore-ready : Ready r d 6 false l (beside (wayOf d) c)
-    restore-ready = record {
-      sheet = fits;
-      inside = beside-in r c (wayOf d) hc some;
-      pass-low = omega arith;
-      done-low = omega arith;
-      apart = omega arith;
-      fresh = not-both _ d 6 (omega arith) own;
-      firm = λ z. absurd (true-false z refl);
-    }
-
-    pub restored : (e : List ℕ) (w : Trip) → Walked r d 6 false l (beside (wayOf d) c) e w → Restores r c d l e
-    restored e w k = record {
-      size = k .size;
-      each = λ roots x h. ⊎-elim
-          (λ a. a .1 ∙ sym (back-so (at r l x) d (through-label r l d (beside (wayOf d) c) own (a .0))))
-          (λ a. a .1 ∙ sym (back-not (at r l x) d (λ e. a .0 (subst (λ (v : ℕ). Rooted r c l v x) e (roots x h (subst (λ (v : ℕ). v < 6) (sym e) low)) .path))))
-          (reached r d 6 l (beside (wayOf d) c) restore-ready e w k x h);
-    }
+  pub restored : (e : List ℕ) → Turns r (beside (wayOf d) c) d 6 l e → Restores r c d l e
+  restored e k = record {
+    size = k .size;
+    each = λ roots. k .each (λ y g p. subst (λ (v : ℕ). Rooted r c l v y) p (roots y g (subst (λ (v : ℕ). v < 6) (sym p) low)) .path);
+  }
 
 module _ (r : Axes) (c : Cell) (l : List ℕ) where
   pub restores-none : RestoresBelow 0 r c l l
   restores-none = record { size = refl; each = λ _ x h. sym (below-not (at r l x) 0 (omega arith)) }
+
+  -- all of them in one pass
+  pub restores-swept : length l ≡ cells r → (n : ℕ) (e : List ℕ) → n ≡ length l → Within 0 n (λ _. becomes 0 5 6) l e → RestoresBelow 6 r c l e
+  restores-swept size n e len k = record { size = k .size; each = λ _ x h. k .passed (num r x) zero-le (omega (arith, len, size, num-lt r x h)) ∙ same (at r l x) }
+    where
+      same : (v : ℕ) → becomes 0 5 6 v ≡ cond (ltb v 6) 6 v
+      same v = ⊎-elim
+          (λ (g : 6 ≤ v). ap (λ (b : Bool). cond b 6 v) (λ t. le-leb 0 v zero-le t && lt-leb v 5 (omega arith) t) ∙ sym (below-not v 6 g))
+          (λ g. ap (λ (b : Bool). cond b 6 v) (λ t. le-leb 0 v zero-le t && le-leb v 5 (omega arith) t) ∙ sym (below-so v 6 g))
+          (le-or-lt 6 v)
 
   pub restores-more : InGrid r c → (t : ℕ) → t < 6 → (a e : List ℕ) → RestoresBelow t r c l a → Restores r c t a e → RestoresBelow (t + 1) r c l e
   restores-more hc t low a e s o = record {
@@ -204,8 +198,8 @@ module _ (r : Axes) (m : List ℕ) (c : Cell) (fits : Sheet r m) (mp : Map r m) 
         of (marked a s w) = way-on r m₈ w u
         of (cut a s b w) = absurd (not-both _ 7 6 (omega arith) (sealed-on q p s u) (e ∙ through-label r m₈ 6 q p u))
 
-    becomes : (d : Cell) → InGrid r d → (d ≡ c → ⊥) → Closes r m c d (at r f d)
-    becomes d h z = of (st .each d h)
+    label-after : (d : Cell) → InGrid r d → (d ≡ c → ⊥) → Closes r m c d (at r f d)
+    label-after d h z = of (st .each d h)
       where
         same : at r m₈ d ≡ at r m d
         same = there r m 8 d c h hc z
@@ -236,7 +230,7 @@ module _ (r : Axes) (m : List ℕ) (c : Cell) (fits : Sheet r m) (mp : Map r m) 
     pub closed-up : Edited r m (closing c) (n + 1) f
     closed-up = record {
       size = size-f ∙ sym (fits .size);
-      each = λ d h. dec-cell r d c h hc (λ e. lid e (ap (at r f) e ∙ now-8)) (becomes d h);
+      each = λ d h. dec-cell r d c h hc (λ e. lid e (ap (at r f) e ∙ now-8)) (label-after d h);
       counted = omega (
         arith,
         st .counted,
@@ -247,12 +241,12 @@ module _ (r : Axes) (m : List ℕ) (c : Cell) (fits : Sheet r m) (mp : Map r m) 
     }
 
   -- as the code has it: i is c's number, and the neighbours are settled twice
-  pub closed-steps : (i : ℕ) → i ≡ num r c → getD m i 0 ≡ 6 → (a b f : List ℕ) (j k : ℕ)
-      → SettlesBelow 6 r c false (set m i 8) a j → SettlesBelow 6 r c true a b k → RestoresBelow 6 r c b f → Edited r m (closing c) (k + 1) f
+  pub closed-steps : (i : ℕ) → i ≡ num r c → getD m i 0 ≡ 6 → (a b f : List ℕ) (j k : Settled)
+      → SettlesBelow 6 r c false (set m i 8) a j → SettlesBelow 6 r c true a b k → RestoresBelow 6 r c b f → Edited r m (closing c) (k .sealed + 1) f
   closed-steps i e six a b f j k s t u =
       let first = subst (λ (x : ℕ). SettlesBelow 6 r c false (set m x 8) a j) e s in
-      let st = subst (Standing r m₈ c b) (sum j k (first .still refl)) (t .keeps m₈ (0 + j) map₈ (first .keeps m₈ 0 map₈ standing)) in
-      closed-up (ap (λ (x : ℕ). getD m x 0) (sym e) ∙ six) b f k st (t .sides refl) (u .size) (u .each (st .rooted))
+      let st = subst (Standing r m₈ c b) (sum (j .sealed) (k .sealed) (first .still refl)) (t .keeps m₈ (0 + j .sealed) map₈ (first .keeps m₈ 0 map₈ standing)) in
+      closed-up (ap (λ (x : ℕ). getD m x 0) (sym e) ∙ six) b f (k .sealed) st (t .sides refl) (u .size) (u .each (st .rooted))
     where
       sum : (j k : ℕ) → j ≡ 0 → 0 + j + k ≡ k
       sum j k e = omega arith

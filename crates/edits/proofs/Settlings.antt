@@ -1,20 +1,23 @@
 -- Settling a neighbour of the closed cell: what a mark, a walk that met an exit and one that met none leave of where a closing stands. Assumes nothing.
-use mathlib.Core.Bool.{Bool, true, false}
+use mathlib.Core.Bool.{Bool, true, false, cond, _&&_}
 use mathlib.Core.Logic.{_⊎_, inl, inr, ⊎-elim}
 use mathlib.Core.Path.{_≡_, refl, sym, ap, subst, _∙_}
 use mathlib.Core.List.{List}
-use Prim.Native.Nat.{ℕ, _+_, _<_, zero-le}
+use Prim.Native.Nat.{ℕ, _+_, _<_, _≤_, zero-le}
 use native.Mathlib.Omega.{arith}
-use lib.Dec.{eqb}
+use lib.Dec.{eqb, leb}
 use lib.ListN.{length, set, length-set}
+use borrow.Author.Tests.{eq-eqb, ne-eqb, le-leb, lt-leb}
 use Rattle.grid.specs.declared.Axes.{Axes}
 use Rattle.grid.specs.declared.Cell.{Cell}
 use Rattle.grid.specs.Counts.{countOf}
 use Rattle.grid.specs.Grid.{num, cells, InGrid, at, Sheet, Face}
+use Rattle.grid.specs.Passes.{becomes, Within}
 use Rattle.grid.specs.Paths.{starts, steps, Through}
 use Rattle.grid.specs.Ways.{room, beside}
 use Rattle.grid.proofs.Cells.{dec-eq, not-both, num-lt, there, stored, swap-face, cells-max}
-use Rattle.grid.proofs.Counts.{count-most}
+use Rattle.grid.proofs.Counts.{count-most, count-none}
+use Rattle.grid.proofs.First.{le-or-lt}
 use Rattle.grid.proofs.Paths.{joined-in, joined-kind, joined-within, joined-more, joined-trans, joined-back}
 use Rattle.grid.proofs.Ways.{beside-in, beside-face}
 use Rattle.reach.specs.declared.Seen.{Seen}
@@ -22,10 +25,11 @@ use Rattle.reach.specs.declared.Trip.{Trip}
 use Rattle.reach.specs.Walk.{wayOf, Sees, Exit, Leads, Ready, Walked}
 use Rattle.reach.proofs.Tests.{true-false}
 use Rattle.reach.proofs.Ways.{seen-room}
+use Rattle.edits.specs.declared.Settled.{Settled}
 use Rattle.edits.specs.Edits.{HasWay}
-use Rattle.edits.specs.Closing.{Map, Stands, as-was, marked, cut, Rooted, Standing, Seals, way-out, cut-off, Settles, SettlesBelow}
-use Rattle.edits.proofs.Changes.{by-place, count-kept}
-use Rattle.edits.proofs.Openings.{unmet}
+use Rattle.edits.specs.Closing.{Map, Stands, as-was, marked, cut, Rooted, Standing, Turns, Seals, way-out, cut-off, Settles, SettlesBelow}
+use Rattle.edits.proofs.Changes.{by-place, count-kept, count-turned}
+use Rattle.edits.proofs.Openings.{reached}
 
 -- ---- ways
 
@@ -87,6 +91,14 @@ module _ (r : Axes) (c : Cell) (l m : List ℕ) (n : ℕ) (mp : Map r m) (st : S
       of (marked q s w) = steps w (swap-face f) h six
       of (cut q s b w) = absurd (omega (arith, s, k .0))
 
+-- ---- the answer of a settling
+
+abbrev pub came : ℕ → ℕ → Settled
+came k j = record { sealed = k; marked = j }
+
+came-so : (s : Settled) (k j : ℕ) → s .sealed ≡ k → s .marked ≡ j → came k j ≡ s
+came-so s k j e q = λ t. record { sealed = sym e t; marked = sym q t }
+
 -- ---- the two walks
 
 module _ (r : Axes) (l : List ℕ) (q : Cell) (d : ℕ) where
@@ -104,16 +116,70 @@ module _ (r : Axes) (l : List ℕ) (q : Cell) (d : ℕ) where
   walked-start : InGrid r q → (e : List ℕ) (w : Trip) → Walked r 6 d true l q e w → at r e q ≡ d
   walked-start h e w k = ⊎-elim (λ a. a .2) (λ a. absurd (a .0 refl)) (k .each q h)
 
-  pub second-ready : Sheet r l → InGrid r q → d < 6 → (e : List ℕ) (w : Trip) → Walked r 6 d true l q e w → Ready r d 7 false e q
-  second-ready fits h low e w k = record {
-    sheet = record { sound = fits .sound; size = k .size ∙ fits .size };
+  -- what the walk set, and that a second one may go over it
+  pub second-start : Sheet r l → InGrid r q → (e : List ℕ) (w : Trip) → Walked r 6 d true l q e w → Sheet r e × (at r e q ≡ d)
+  second-start fits h e w k = (record { sound = fits .sound; size = k .size ∙ fits .size }, walked-start h e w k)
+
+turned-so : (v d new : ℕ) → v ≡ d → cond (eqb v d) new v ≡ new
+turned-so v d new e = ap (λ (b : Bool). cond b new v) (eq-eqb v d e)
+
+turned-not : (v d new : ℕ) → (v ≡ d → ⊥) → cond (eqb v d) new v ≡ v
+turned-not v d new z = ap (λ (b : Bool). cond b new v) (ne-eqb v d z)
+
+-- every label of q's kind becomes another, by a walk or by a pass
+module _ (r : Axes) (l : List ℕ) (q : Cell) (d new : ℕ) (fits : Sheet r l) (h : InGrid r q) (own : at r l q ≡ d) (low : d < 6) (high : 6 ≤ new) (top : new < 9) where
+  pub turn-ready : Ready r d new false l q
+  turn-ready = record {
+    sheet = fits;
     inside = h;
     pass-low = omega arith;
-    done-low = omega arith;
-    apart = omega arith;
-    fresh = not-both _ d 7 (omega arith) (walked-start h e w k);
+    done-low = top;
+    apart = λ e. omega arith;
+    fresh = λ e. omega (arith, own, e);
     firm = λ z. absurd (true-false z refl);
   }
+
+  pub turned-walk : (e : List ℕ) (w : Trip) → Walked r d new false l q e w → Turns r q d new l e
+  turned-walk e w k = record {
+    size = k .size;
+    only = λ x g. ⊎-elim (λ a. inr (a .1)) (λ a. inl (a .1)) (reached r d new l q turn-ready e w k x g);
+    each = λ roots x g. ⊎-elim
+        (λ a. a .1 ∙ sym (turned-so (at r l x) d new (through-label r l d q own (a .0))))
+        (λ a. a .1 ∙ sym (turned-not (at r l x) d new (λ i. a .0 (roots x g i))))
+        (reached r d new l q turn-ready e w k x g);
+  }
+
+  pub turned-pass : (n : ℕ) (e : List ℕ) → n ≡ length l → Within 0 n (λ _. becomes d d new) l e → Turns r q d new l e
+  turned-pass n e len k = record {
+    size = k .size;
+    only = λ x g. ⊎-elim (λ i. inr (at-pass x g ∙ i)) (λ i. inl (at-pass x g ∙ i)) (either (at r l x));
+    each = λ _ x g. at-pass x g ∙ same (at r l x);
+  }
+    where
+      at-pass : (x : Cell) → InGrid r x → at r e x ≡ becomes d d new (at r l x)
+      at-pass x g = k .passed (num r x) zero-le (omega (arith, len, fits .size, num-lt r x g))
+
+      same : (v : ℕ) → becomes d d new v ≡ cond (eqb v d) new v
+      same v = dec-eq v d
+          (λ e. ap (λ (b : Bool). cond b new v) (yes-both v e) ∙ sym (turned-so v d new e))
+          (λ z. ap (λ (b : Bool). cond b new v) (no-both v z) ∙ sym (turned-not v d new z))
+        where
+          yes-both : (v : ℕ) → v ≡ d → (leb d v && leb v d) ≡ true
+          yes-both v e = λ t. le-leb d v (omega arith) t && le-leb v d (omega arith) t
+
+          no-both : (v : ℕ) → (v ≡ d → ⊥) → (leb d v && leb v d) ≡ false
+          no-both v z = ⊎-elim (λ (g : d ≤ v). and-false (leb d v) (leb v d) (lt-leb v d (omega arith))) (λ g. λ t. lt-leb d v g t && leb v d) (le-or-lt d v)
+            where
+              and-false : (a b : Bool) → b ≡ false → (a && b) ≡ false
+              and-false true b e = e
+              and-false false b e = refl
+
+      either : (v : ℕ) → (becomes d d new v ≡ new) ⊎ (becomes d d new v ≡ v)
+      either v = go (leb d v && leb v d)
+        where
+          go : (b : Bool) → (cond b new v ≡ new) ⊎ (cond b new v ≡ v)
+          go true = inl refl
+          go false = inr refl
 
 -- ---- one neighbour
 
@@ -125,13 +191,13 @@ module _ (r : Axes) (c : Cell) (hc : InGrid r c) (d : ℕ) (low : d < 6) (walks 
       plus n = omega arith
 
   -- no label changes
-  unchanged : (walks ≡ true → 0 < room r (wayOf d) c → at r l (beside (wayOf d) c) ≡ 6 → ⊥) → Settles r c d walks l l 0
-  unchanged z = record { size = refl; fewer = λ x h q. q; side = z; few = zero-le; still = λ _. refl; keeps = λ m n mp st. nothing l n m st }
+  unchanged : (walks ≡ true → 0 < room r (wayOf d) c → at r l (beside (wayOf d) c) ≡ 6 → ⊥) → Settles r c d walks l l (came 0 0)
+  unchanged z = record { size = refl; fewer = λ x h q. q; side = z; few = zero-le; some = zero-le; still = λ _. refl; keeps = λ m n mp st. nothing l n m st }
 
-  pub settled-other : (a : Seen) → Sees r l c d a → (a .label ≡ 6 → ⊥) → Settles r c d walks l l 0
+  pub settled-other : (a : Seen) → Sees r l c d a → (a .label ≡ 6 → ⊥) → Settles r c d walks l l (came 0 0)
   settled-other a s z = unchanged (λ _ g q. z (s .label g ∙ q))
 
-  pub settled-later : walks ≡ false → Settles r c d walks l l 0
+  pub settled-later : walks ≡ false → Settles r c d walks l l (came 0 0)
   settled-later w = unchanged (λ t. absurd (true-false t w))
 
   module _ (some : 0 < room r (wayOf d) c) (six : at r l (beside (wayOf d) c) ≡ 6) where
@@ -195,19 +261,20 @@ module _ (r : Axes) (c : Cell) (hc : InGrid r c) (d : ℕ) (low : d < 6) (walks 
           has-way : {x : Cell} → Through r l 6 q x → HasWay r m x
           has-way u = way-on r m q-way (path-was r c l m n mp st q u)
 
-      marking : Settles r c d walks l e 0
-      marking = record {
+      marking : (j : ℕ) → j ≤ 16777216 → Settles r c d walks l e (came 0 j)
+      marking j some = record {
         size = size;
         fewer = λ x h p. ⊎-elim (λ a. absurd (not-both _ d 6 (omega arith) (a .2) p)) (λ a. sym (a .1) ∙ p) (each x h);
         side = λ _ _ p. ⊎-elim (λ a. not-both _ d 6 (omega arith) (a .2) p) (λ a. a .0 refl) (each q hq);
         few = zero-le;
+        some = some;
         still = λ _. refl;
         keeps = marking-keeps;
       }
 
     -- a look found a way
-    pub settled-found : (i : ℕ) → i ≡ num r q → Leads r l q → Settles r c d walks l (set l i d) 0
-    settled-found i e (t, u, x) = rw e (marking (set l (num r q) d) (length-set l (num r q) d) each 6 t u x)
+    pub settled-found : (i : ℕ) → i ≡ num r q → Leads r l q → Settles r c d walks l (set l i d) (came 0 1)
+    settled-found i e (t, u, x) = rw e (marking (set l (num r q) d) (length-set l (num r q) d) each 6 t u x 1 (omega arith))
       where
         each : (x : Cell) → InGrid r x → (Through r l 6 q x × Through r (set l (num r q) d) d q x × (at r (set l (num r q) d) x ≡ d)) ⊎ ((x ≡ q → ⊥) × (at r (set l (num r q) d) x ≡ at r l x))
         each x h = stored r l d x q h hq (fits .size) (λ p v. inl (starts h p, starts h p, v)) (λ z v. inr (z, v))
@@ -217,13 +284,16 @@ module _ (r : Axes) (c : Cell) (hc : InGrid r c) (d : ℕ) (low : d < 6) (walks 
       at-q₁ = walked-start r l q d hq l₁ w₁ k₁
 
       -- the walk met an exit
-      settled-out : w₁ .met ≡ true → Settles r c d walks l l₁ 0
-      settled-out met = let x = k₁ .met-at met in marking l₁ (k₁ .size) (k₁ .each) d (x .1) (x .2) (x .3)
+      walk-few : w₁ .count ≤ 16777216
+      walk-few = omega (arith, k₁ .counted, count-most (λ x. eqb x d) l₁, k₁ .size, fits .size, cells-max r (fits .sound))
+
+      settled-out : w₁ .met ≡ true → Settles r c d walks l l₁ (came 0 (w₁ .count))
+      settled-out met = let x = k₁ .met-at met in marking l₁ (k₁ .size) (k₁ .each) d (x .1) (x .2) (x .3) (w₁ .count) walk-few
 
       -- it met none, and what it set is turned
-      module _ (free : w₁ .met ≡ false) (e : List ℕ) (w₂ : Trip) (k₂ : Walked r d 7 false l₁ q e w₂) where
+      module _ (free : w₁ .met ≡ false) (e : List ℕ) (k₂ : Turns r q d 7 l₁ e) where
         seven-or : (x : Cell) → InGrid r x → (at r e x ≡ 7) ⊎ (at r e x ≡ at r l₁ x)
-        seven-or x h = ⊎-elim (λ a. inl (a .2)) (λ a. inr (a .1)) (k₂ .each x h)
+        seven-or x h = ⊎-elim (λ a. inr a) (λ a. inl a) (k₂ .only x h)
 
         fewer : (x : Cell) → InGrid r x → at r e x ≡ 6 → at r l x ≡ 6
         fewer x h p = ⊎-elim
@@ -244,14 +314,21 @@ module _ (r : Axes) (c : Cell) (hc : InGrid r c) (d : ℕ) (low : d < 6) (walks 
               let k = st .rooted x h (subst (λ (v : ℕ). v < 6) (sym p) low) in
               not-both _ 6 d (omega arith) six (subst (λ (v : ℕ). at r l (beside (wayOf v) c) ≡ v) p (k .root))
 
+          roots : (x : Cell) → InGrid r x → at r l₁ x ≡ d → Through r l₁ d q x
+          roots x h p = ⊎-elim (λ a. a .1) (λ a. absurd (no-mark x h (sym (a .1) ∙ p))) (k₁ .each x h)
+
           each : (x : Cell) → InGrid r x → (Through r l 6 q x × (at r e x ≡ 7)) ⊎ ((Through r l 6 q x → ⊥) × (at r e x ≡ at r l x))
           each x h = ⊎-elim
-              (λ a. inl (a .0, k₂ .whole (unmet r d 7 l₁ q (second-ready r l q d fits hq low l₁ w₁ k₁) e w₂ k₂) x (a .1)))
-              (λ a. inr (
-                (λ u. no-mark x h (sym (a .1) ∙ k₁ .whole free x u)),
-                ⊎-elim (λ b. absurd (⊎-elim (a .0) (λ p. no-mark x h (sym (a .1) ∙ p)) (joined-kind (b .0)))) (λ b. b .1 ∙ a .1) (k₂ .each x h),
-              ))
+              (λ a. inl (a .0, k₂ .each roots x h ∙ turned-so (at r l₁ x) d 7 (a .2)))
+              (λ a. inr ((λ u. no-mark x h (sym (a .1) ∙ k₁ .whole free x u)), k₂ .each roots x h ∙ turned-not (at r l₁ x) d 7 (λ p. no-mark x h (sym (a .1) ∙ p)) ∙ a .1))
               (k₁ .each x h)
+
+          -- as many became 7 as the walk set
+          seven-more : countOf 7 e ≡ countOf 7 l₁ + w₁ .count
+          seven-more =
+              let all = count-turned 7 d (omega arith) l₁ e (k₂ .size) (by-place r l₁ e (λ a b. b ≡ cond (eqb a d) 7 a) (k₁ .size ∙ fits .size) (k₂ .each roots)) in
+              let none = count-none (λ x. eqb x d) l (by-place r l l (λ a _. eqb a d ≡ false) (fits .size) (λ x h. ne-eqb (at r l x) d (no-mark x h))) in
+              omega (arith, all, none, k₁ .counted)
 
           -- what it reached has no mark beside it
           unmarked : (x y : Cell) → InGrid r y → Face x y → Through r l 6 q x → at r l y < 6 → ⊥
@@ -280,7 +357,7 @@ module _ (r : Axes) (c : Cell) (hc : InGrid r c) (d : ℕ) (low : d < 6) (walks 
           keep-mark : (v : ℕ) → v < 6 → (y : Cell) → InGrid r y → at r l y ≡ v → at r e y ≡ v
           keep-mark v g y h p = ⊎-elim (λ a. absurd (mark-apart (through-label r l 6 q six (a .0)) (subst (λ (z : ℕ). z < 6) (sym p) g))) (λ a. a .1 ∙ p) (each y h)
 
-          cutting-keeps : Standing r m c e (n + w₂ .count)
+          cutting-keeps : Standing r m c e (n + w₁ .count)
           cutting-keeps = record {
             size = k₂ .size ∙ k₁ .size ∙ st .size;
             each = λ x h. ⊎-elim
@@ -295,25 +372,26 @@ module _ (r : Axes) (c : Cell) (hc : InGrid r c) (d : ℕ) (low : d < 6) (walks 
                 (λ a. absurd (omega (arith, a .1)))
                 (λ a. let g' = subst (λ (v : ℕ). v < 6) (a .1) g in subst (λ (v : ℕ). Rooted r c e v x) (sym (a .1)) (root-keep r c hc l e (at r l x) x (keep-mark (at r l x) g') (st .rooted x h g')))
                 (each x h);
-            counted = omega (arith, st .counted, k₂ .counted, seven-kept₁);
+            counted = omega (arith, st .counted, seven-more, seven-kept₁);
           }
             where
               q-six : at r m q ≡ 6
               q-six = six-was r c l m n mp st q hq six
 
-        settled-in : walks ≡ true → Settles r c d walks l e (w₂ .count)
+        settled-in : walks ≡ true → Settles r c d walks l e (came (w₁ .count) 0)
         settled-in w = record {
           size = k₂ .size ∙ k₁ .size;
           fewer = fewer;
           side = λ _ _ p. ⊎-elim (λ a. not-both _ 7 6 (omega arith) a p) (λ a. not-both _ d 6 (omega arith) (a ∙ at-q₁) p) (seven-or q hq);
-          few = omega (arith, k₂ .counted, count-most (λ x. eqb x 7) e, k₂ .size, k₁ .size, fits .size, cells-max r (fits .sound));
+          few = walk-few;
+          some = zero-le;
           still = λ z. absurd (true-false w z);
           keeps = λ m n mp st. cutting-keeps m n mp st;
         }
 
-    pub settled-sealed : walks ≡ true → (e : List ℕ) (k : ℕ) → Seals r l q d e k → Settles r c d walks l e k
-    settled-sealed w e k (way-out w₁ k₁ met z) = subst (Settles r c d walks l e) (sym z) (settled-out e w₁ k₁ met)
-    settled-sealed w e k (cut-off w₁ w₂ l₁ k₁ free k₂ z) = subst (Settles r c d walks l e) (sym z) (settled-in l₁ w₁ k₁ free e w₂ k₂ w)
+    pub settled-sealed : walks ≡ true → (e : List ℕ) (s : Settled) → Seals r l q d e s → Settles r c d walks l e s
+    settled-sealed w e s (way-out w₁ k₁ met y z) = subst (Settles r c d walks l e) (came-so s 0 (w₁ .count) y z) (settled-out e w₁ k₁ met)
+    settled-sealed w e s (cut-off w₁ l₁ k₁ free k₂ y z) = subst (Settles r c d walks l e) (came-so s (w₁ .count) 0 y z) (settled-in l₁ w₁ k₁ free e k₂ w)
 
 -- ---- the neighbour as the code has it: a look saw that it is 6
 
@@ -340,12 +418,13 @@ module _ (r : Axes) (l : List ℕ) (c : Cell) (d : ℕ) (a : Seen) (hc : InGrid 
 -- ---- one neighbour after the other
 
 module _ (r : Axes) (c : Cell) (walks : Bool) (l : List ℕ) where
-  pub below-none : SettlesBelow 0 r c walks l l 0
+  pub below-none : SettlesBelow 0 r c walks l l (came 0 0)
   below-none = record {
     size = refl;
     fewer = λ x h q. q;
     sides = λ _ d h. absurd (never d h);
     few = zero-le;
+    some = zero-le;
     still = λ _. refl;
     keeps = λ m n mp st. subst (Standing r m c l) (plus n) st;
   }
@@ -356,16 +435,17 @@ module _ (r : Axes) (c : Cell) (walks : Bool) (l : List ℕ) where
       plus : (n : ℕ) → n ≡ n + 0
       plus n = omega arith
 
-  pub below-more : InGrid r c → (t : ℕ) (a e : List ℕ) (k j : ℕ) → SettlesBelow t r c walks l a k → Settles r c t walks a e j → SettlesBelow (t + 1) r c walks l e (k + j)
-  below-more hc t a e k j s o = record {
+  pub below-more : InGrid r c → (t : ℕ) (a e : List ℕ) (k j : ℕ) (o : Settled) → SettlesBelow t r c walks l a (came k j) → Settles r c t walks a e o → SettlesBelow (t + 1) r c walks l e (came (k + o .sealed) (j + o .marked))
+  below-more hc t a e k j u s o = record {
     size = o .size ∙ s .size;
     fewer = λ x h p. s .fewer x h (o .fewer x h p);
     sides = λ w d h. dec-eq d t
         (λ i. subst (λ (x : ℕ). 0 < room r (wayOf x) c → at r e (beside (wayOf x) c) ≡ 6 → ⊥) (sym i) (o .side w))
         (λ i g p. s .sides w d (omega arith) g (o .fewer (beside (wayOf d) c) (beside-in r c (wayOf d) hc g) p));
     few = omega (arith, s .few, o .few);
+    some = omega (arith, s .some, o .some);
     still = λ w. omega (arith, s .still w, o .still w);
-    keeps = λ m n mp st. subst (Standing r m c e) (plus n k j) (o .keeps m (n + k) mp (s .keeps m n mp st));
+    keeps = λ m n mp st. subst (Standing r m c e) (plus n k (u .sealed)) (o .keeps m (n + k) mp (s .keeps m n mp st));
   }
     where
       plus : (n k j : ℕ) → n + k + j ≡ n + (k + j)

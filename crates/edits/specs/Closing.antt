@@ -14,6 +14,7 @@ use Rattle.grid.specs.Paths.{Through}
 use Rattle.grid.specs.Ways.{room, beside}
 use Rattle.reach.specs.declared.Trip.{Trip}
 use Rattle.reach.specs.Walk.{wayOf, Walked}
+use Rattle.edits.specs.declared.Settled.{Settled}
 use Rattle.edits.specs.Edits.{HasWay}
 
 -- labels 6, 7 and 8
@@ -47,28 +48,36 @@ pub record Standing (r : Axes) (m : List ℕ) (c : Cell) (l : List ℕ) (n : ℕ
   pub rooted : Roots r c l
   pub counted : n + countOf 7 m ≡ countOf 7 l
 
--- one walk that met an exit; or one that met none, and another over what it set
-pub data Seals (r : Axes) (before : List ℕ) (q : Cell) (d : ℕ) (after : List ℕ) (k : ℕ) : Type 0 where
-  way-out : (w : Trip) → Walked r 6 d true before q after w → w .met ≡ true → k ≡ 0 → Seals r before q d after k
-  cut-off : (w v : Trip) (l : List ℕ) → Walked r 6 d true before q l w → w .met ≡ false → Walked r d 7 false l q after v → k ≡ v .count → Seals r before q d after k
+-- q and what is joined to it through the label d, if those are all that have it, take a new one
+pub record Turns (r : Axes) (q : Cell) (d new : ℕ) (before after : List ℕ) : Type 0 where
+  pub size : length after ≡ length before
+  pub only : (x : Cell) → InGrid r x → (at r after x ≡ at r before x) ⊎ (at r after x ≡ new)
+  pub each : ((x : Cell) → InGrid r x → at r before x ≡ d → Through r before d q x) → (x : Cell) → InGrid r x → at r after x ≡ cond (eqb (at r before x) d) new (at r before x)
 
--- what settling the ways below t does: k cells more become 7, no label becomes 6, and if walks may be made no such neighbour stays 6, else none becomes 7
-pub record SettlesBelow (t : ℕ) (r : Axes) (c : Cell) (walks : Bool) (before after : List ℕ) (k : ℕ) : Type 0 where
+-- a walk that met an exit; or one that met none, and what it set then turned
+pub data Seals (r : Axes) (before : List ℕ) (q : Cell) (d : ℕ) (after : List ℕ) (s : Settled) : Type 0 where
+  way-out : (w : Trip) → Walked r 6 d true before q after w → w .met ≡ true → s .sealed ≡ 0 → s .marked ≡ w .count → Seals r before q d after s
+  cut-off : (w : Trip) (l : List ℕ) → Walked r 6 d true before q l w → w .met ≡ false → Turns r q d 7 l after → s .sealed ≡ w .count → s .marked ≡ 0 → Seals r before q d after s
+
+-- what settling the ways below t does: so many cells more become 7, no label becomes 6, and if walks may be made no such neighbour stays 6, else none becomes 7
+pub record SettlesBelow (t : ℕ) (r : Axes) (c : Cell) (walks : Bool) (before after : List ℕ) (s : Settled) : Type 0 where
   pub size : length after ≡ length before
   pub fewer : (x : Cell) → InGrid r x → at r after x ≡ 6 → at r before x ≡ 6
   pub sides : walks ≡ true → (d : ℕ) → d < t → 0 < room r (wayOf d) c → at r after (beside (wayOf d) c) ≡ 6 → ⊥
-  pub few : k ≤ t * 16777216
-  pub still : walks ≡ false → k ≡ 0
-  pub keeps : (m : List ℕ) (n : ℕ) → Map r m → Standing r m c before n → Standing r m c after (n + k)
+  pub few : s .sealed ≤ t * 16777216
+  pub some : s .marked ≤ t * 16777216
+  pub still : walks ≡ false → s .sealed ≡ 0
+  pub keeps : (m : List ℕ) (n : ℕ) → Map r m → Standing r m c before n → Standing r m c after (n + s .sealed)
 
 -- and settling one way
-pub record Settles (r : Axes) (c : Cell) (d : ℕ) (walks : Bool) (before after : List ℕ) (k : ℕ) : Type 0 where
+pub record Settles (r : Axes) (c : Cell) (d : ℕ) (walks : Bool) (before after : List ℕ) (s : Settled) : Type 0 where
   pub size : length after ≡ length before
   pub fewer : (x : Cell) → InGrid r x → at r after x ≡ 6 → at r before x ≡ 6
   pub side : walks ≡ true → 0 < room r (wayOf d) c → at r after (beside (wayOf d) c) ≡ 6 → ⊥
-  pub few : k ≤ 16777216
-  pub still : walks ≡ false → k ≡ 0
-  pub keeps : (m : List ℕ) (n : ℕ) → Map r m → Standing r m c before n → Standing r m c after (n + k)
+  pub few : s .sealed ≤ 16777216
+  pub some : s .marked ≤ 16777216
+  pub still : walks ≡ false → s .sealed ≡ 0
+  pub keeps : (m : List ℕ) (n : ℕ) → Map r m → Standing r m c before n → Standing r m c after (n + s .sealed)
 
 -- the mark d becomes 6
 pub record Restores (r : Axes) (c : Cell) (d : ℕ) (before after : List ℕ) : Type 0 where

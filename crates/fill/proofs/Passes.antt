@@ -1,19 +1,16 @@
 -- Laws of the passes of a fill: the last step with cavities, and the seeding. Assumes nothing.
 use mathlib.Core.Bool.{false, cond}
-use mathlib.Core.Logic.{_⊎_, inl, inr, ⊎-elim}
-use mathlib.Core.Path.{_≡_, refl, sym, ap, subst, _∙_}
+use mathlib.Core.Path.{_≡_, refl, sym, ap, _∙_}
 use mathlib.Core.List.{List, [], _∷_, map}
 use Prim.Native.Nat.{ℕ, zero, suc, _+_, _-_, _≤_, _<_, zero-le}
 use native.Mathlib.Omega.{arith}
 use lib.Dec.{eqb}
-use lib.ListN.{length, getD, set, length-set, length-map}
-use lib.Seq.{getD-set-same, getD-set-other, ext-getD}
+use lib.ListN.{length}
 use borrow.Author.Tests.{ne-eqb, le-leb, lt-leb}
 use Rattle.grid.specs.declared.Axes.{Axes}
 use Rattle.grid.specs.declared.Cell.{Cell}
 use Rattle.grid.specs.Grid.{InGrid, num, cells, at, cellNumbered, onBorder}
-use Rattle.grid.proofs.Cells.{dec-eq, num-lt, cell-of-number, labels-one}
-use Rattle.grid.proofs.First.{le-or-lt}
+use Rattle.grid.proofs.Cells.{num-lt, cell-of-number, labels-one}
 use Rattle.fill.specs.Phases.{seedOf, seeded}
 use Rattle.grid.specs.Passes.{becomes}
 use Rattle.fill.specs.Passes.{seedAt, Alike}

@@ -1,11 +1,11 @@
 -- 01, Fill: the seeding, the phases and the last step of each mode. Definitions only.
 --
 -- "Labels by order in V's enum: 0 Undefined, 1 outside-to-walk, 2 inside-to-walk, 3 no-walk, 4 surface-walk-1, 5 surface-walk-2, 6 Outside, 7 Inside, 8 surface."
-use mathlib.Core.Bool.{Bool, true, false, not, cond, _&&_}
+use mathlib.Core.Bool.{Bool, true, false, not, cond}
 use mathlib.Core.Path.{_≡_}
 use mathlib.Core.List.{List, map}
 use Prim.Native.Nat.{ℕ, suc, _+_}
-use lib.Dec.{eqb, leb}
+use lib.Dec.{eqb}
 use Rattle.grid.specs.declared.Axes.{Axes}
 use Rattle.grid.specs.declared.Cell.{Cell}
 use Rattle.grid.specs.Grid.{at, labelsBy, onBorder}

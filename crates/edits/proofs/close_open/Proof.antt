@@ -28,17 +28,20 @@ settle-all-requires c κs = (sheet-kept _ _ _ (length-set (c .before .before .be
 settle-all-requires-2 : tie.Need-settle-all-requires-2
 settle-all-requires-2 c κs = (sheet-kept _ _ _ (c .before .before .before .settle-all .ensures .size ∙ length-set (c .before .before .before .before .before .before .before .before .before .args .l .now) (c .before .before .before .before .before .before .before .number .result) _) (c .before .before .before .before .before .before .before .before .before .pre .0 .0), (c .before .before .before .before .before .before .before .before .before .pre .1 .0, c .before .before .before .before .before .before .before .number .ensures))
 
+add-restore-all : tie.Need-add-restore-all
+add-restore-all c = omega (arith, c .before .before .before .before .before .before .before .before .before .settle-all .ensures .some, c .before .before .before .before .before .settle-all2 .ensures .some)
+
 restore-all-requires : tie.Need-restore-all-requires
-restore-all-requires c κs = (sheet-kept _ _ _ (c .before .before .before .settle-all2 .ensures .size ∙ c .before .before .before .before .before .before .before .settle-all .ensures .size ∙ length-set (c .before .before .before .before .before .before .before .before .before .before .before .before .before .args .l .now) (c .before .before .before .before .before .before .before .before .before .before .before .number .result) _) (c .before .before .before .before .before .before .before .before .before .before .before .before .before .pre .0 .0), (c .before .before .before .before .before .before .before .before .before .before .before .before .before .pre .1 .0, c .before .before .before .before .before .before .before .before .before .before .before .number .ensures))
+restore-all-requires c κs = (sheet-kept _ _ _ (c .before .before .before .before .before .settle-all2 .ensures .size ∙ c .before .before .before .before .before .before .before .before .before .settle-all .ensures .size ∙ length-set (c .before .before .before .before .before .before .before .before .before .before .before .before .before .before .before .args .l .now) (c .before .before .before .before .before .before .before .before .before .before .before .before .before .number .result) _) (c .before .before .before .before .before .before .before .before .before .before .before .before .before .before .before .pre .0 .0), (c .before .before .before .before .before .before .before .before .before .before .before .before .before .before .before .pre .1 .0, c .before .before .before .before .before .before .before .before .before .before .before .before .before .number .ensures))
 
 add-result : tie.Need-add-result
-add-result c = omega (arith, c .before .before .before .before .before .before .settle-all2 .ensures .few)
+add-result c = omega (arith, c .before .before .before .before .before .before .before .before .before .settle-all2 .ensures .few)
 
 same-length-2 : tie.Need-same-length-2
-same-length-2 c = c .before .before .restore-all .kept .0 ∙ c .before .before .before .before .before .before .settle-all2 .kept .0 ∙ c .before .before .before .before .before .before .before .before .before .before .settle-all .kept .0 ∙ length-set (c .before .before .before .before .before .before .before .before .before .before .before .before .before .before .before .before .args .l .now) (c .before .before .before .before .before .before .before .before .before .before .before .before .before .before .number .result) _
+same-length-2 c = c .before .before .before .restore-all .kept .0 ∙ c .before .before .before .before .before .before .before .before .before .settle-all2 .kept .0 ∙ c .before .before .before .before .before .before .before .before .before .before .before .before .before .settle-all .kept .0 ∙ length-set (c .before .before .before .before .before .before .before .before .before .before .before .before .before .before .before .before .before .before .before .args .l .now) (c .before .before .before .before .before .before .before .before .before .before .before .before .before .before .before .before .before .number .result) _
 
 returns-2 : tie.Need-returns-2
-returns-2 c = closed-steps _ _ _ (c .before .before .before .before .before .before .before .before .before .before .before .before .before .before .before .before .pre .0 .0) (c .before .before .before .before .before .before .before .before .before .before .before .before .before .before .before .before .pre .0 .1) (c .before .before .before .before .before .before .before .before .before .before .before .before .before .before .before .before .pre .1 .0) _ (c .before .before .before .before .before .before .before .before .before .before .before .before .before .before .number .ensures) (c .before .before .before .before .before .before .before .before .before .before .before .before .if1 .left) _ _ _ _ _ (c .before .before .before .before .before .before .before .before .before .before .settle-all .ensures) (c .before .before .before .before .before .before .settle-all2 .ensures) (c .before .before .restore-all .ensures)
+returns-2 c = closed-steps _ _ _ (c .before .before .before .before .before .before .before .before .before .before .before .before .before .before .before .before .before .before .before .pre .0 .0) (c .before .before .before .before .before .before .before .before .before .before .before .before .before .before .before .before .before .before .before .pre .0 .1) (c .before .before .before .before .before .before .before .before .before .before .before .before .before .before .before .before .before .before .before .pre .1 .0) _ (c .before .before .before .before .before .before .before .before .before .before .before .before .before .before .before .before .before .number .ensures) (c .before .before .before .before .before .before .before .before .before .before .before .before .before .before .before .if1 .left) _ _ _ _ _ (c .before .before .before .before .before .before .before .before .before .before .before .before .before .settle-all .ensures) (c .before .before .before .before .before .before .before .before .before .settle-all2 .ensures) (c .before .before .before .restore-all .ensures)
 
 pub close-open-spec : {M : Type 1} → statement M
 close-open-spec =
@@ -51,6 +54,7 @@ close-open-spec =
     returns
     settle-all-requires
     settle-all-requires-2
+    add-restore-all
     restore-all-requires
     add-result
     same-length-2
