@@ -13,7 +13,7 @@
 // A pattern has a byte for each cell. Its remainder by 16 is the cell's label or, if it is 0, one that takes
 // each of 6, 7 and 8; the cells of a byte of 16 or more are opened and closed, each time from the grid's labels.
 ghost use mathlib.Core.Path.{_≡_};
-ghost use Prim.Native.Nat.{_+_, _*_, _≤_, _<_};
+ghost use Prim.Native.Nat.{_+_, _≤_};
 ghost use lib.ListN.{length};
 use edits::Editing;
 use fill::Mode;

@@ -7,7 +7,7 @@ use Prim.Native.Nat.{ℕ, _+_, _<_, _≤_, zero-le}
 use native.Mathlib.Omega.{arith}
 use lib.Dec.{eqb, ltb}
 use lib.ListN.{length, getD, set, length-set}
-use borrow.Author.Tests.{eq-eqb, ne-eqb, lt-ltb, le-ltb, le-leb, lt-leb}
+use borrow.Author.Tests.{lt-ltb, le-ltb, le-leb, lt-leb}
 use Rattle.grid.specs.declared.Axes.{Axes}
 use Rattle.grid.specs.declared.Cell.{Cell}
 use Rattle.grid.specs.Counts.{countOf}
@@ -26,7 +26,7 @@ use Rattle.edits.specs.declared.Settled.{Settled}
 use Rattle.edits.specs.Edits.{closing, lidded, HasWay, Closes, lid, sealed, stays, changed, Edited}
 use Rattle.edits.specs.Closing.{Map, FromBeside, Stands, as-was, marked, cut, Rooted, Roots, Standing, Turns, SettlesBelow, Restores, RestoresBelow}
 use Rattle.edits.proofs.Changes.{by-place, changed-count, count-kept, changed-one}
-use Rattle.edits.proofs.Settlings.{way-on, through-label, through-keep, root-keep}
+use Rattle.edits.proofs.Settlings.{way-on, through-label, through-keep, root-keep, turned-so, turned-not}
 
 -- ---- marks become 6 again
 
@@ -35,12 +35,6 @@ if-so b x y e = ap (λ (t : Bool). cond t x y) e
 
 if-not : (b : Bool) (x y : ℕ) → b ≡ false → cond b x y ≡ y
 if-not b x y e = ap (λ (t : Bool). cond t x y) e
-
-back-so : (v d : ℕ) → v ≡ d → cond (eqb v d) 6 v ≡ 6
-back-so v d e = if-so (eqb v d) 6 v (eq-eqb v d e)
-
-back-not : (v d : ℕ) → (v ≡ d → ⊥) → cond (eqb v d) 6 v ≡ v
-back-not v d z = if-not (eqb v d) 6 v (ne-eqb v d z)
 
 below-so : (v t : ℕ) → v < t → cond (ltb v t) 6 v ≡ 6
 below-so v t h = if-so (ltb v t) 6 v (lt-ltb v t h)
@@ -52,7 +46,7 @@ module _ (r : Axes) (c : Cell) (hc : InGrid r c) (d : ℕ) (low : d < 6) (l : Li
   pub restored-none : (a : Seen) → Sees r l c d a → (a .label ≡ d → ⊥) → Restores r c d l l
   restored-none a s z = record {
     size = refl;
-    each = λ roots x h. sym (back-not (at r l x) d (λ e.
+    each = λ roots x h. sym (turned-not (at r l x) d 6 (λ e.
         let k = subst (λ (v : ℕ). Rooted r c l v x) e (roots x h (subst (λ (v : ℕ). v < 6) (sym e) low)) in
         z (s .label (k .some) ∙ k .root)));
   }
@@ -85,10 +79,10 @@ module _ (r : Axes) (c : Cell) (l : List ℕ) where
     where
       both : (v u : ℕ) → u ≡ cond (ltb v t) 6 v → cond (eqb u t) 6 u ≡ cond (ltb v (t + 1)) 6 v
       both v u e = ⊎-elim
-          (λ g. let six : u ≡ 6 = e ∙ below-so v t (omega arith) in back-not u t (λ q. omega (arith, six)) ∙ six ∙ sym (below-so v (t + 1) (omega arith)))
+          (λ g. let six : u ≡ 6 = e ∙ below-so v t (omega arith) in turned-not u t 6 (λ q. omega (arith, six)) ∙ six ∙ sym (below-so v (t + 1) (omega arith)))
           (λ g. let same : u ≡ v = e ∙ below-not v t (omega arith) in dec-eq v t
-          (λ q. back-so u t (same ∙ q) ∙ sym (below-so v (t + 1) (omega arith)))
-          (λ z. back-not u t (λ q. z (sym same ∙ q)) ∙ same ∙ sym (below-not v (t + 1) (omega arith))))
+          (λ q. turned-so u t 6 (same ∙ q) ∙ sym (below-so v (t + 1) (omega arith)))
+          (λ z. turned-not u t 6 (λ q. z (sym same ∙ q)) ∙ same ∙ sym (below-not v (t + 1) (omega arith))))
           (split v)
         where
           split : (v : ℕ) → (v < t) ⊎ (t ≤ v)

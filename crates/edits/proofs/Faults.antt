@@ -1,7 +1,7 @@
 -- What an edit's checks leave: a map of labels 6, 7 and 8, a cell of it, and the right kind of cell. Assumes nothing.
-use mathlib.Core.Bool.{Bool, true, false, true≢false, not, _&&_}
+use mathlib.Core.Bool.{Bool, true, false, not, _&&_}
 use mathlib.Core.Logic.{_⊎_, inl, inr, ⊎-elim}
-use mathlib.Core.Path.{_≡_, refl, sym, subst}
+use mathlib.Core.Path.{_≡_, sym, subst}
 use mathlib.Core.List.{List, [], _∷_}
 use Prim.Native.Nat.{ℕ, _<_, _≤_}
 use native.Mathlib.Omega.{arith}
@@ -14,18 +14,15 @@ use Rattle.grid.specs.Answers.{_andThen_, faultIf, Finds}
 use Rattle.grid.specs.Checks.{takes, mapFault}
 use Rattle.grid.specs.Grid.{num, InGrid, at, Sheet}
 use Rattle.grid.proofs.Cells.{dec-eq, num-lt}
+use Rattle.grid.proofs.First.{both-true}
 use Rattle.grid.proofs.Checks.{both-fine, passed, taken-means, map-fine, finds-map, finds-if, finds-then}
 use Rattle.edits.specs.Edits.{Edit, opening, closing, mapLabels, inGrid, wrongKind, cellFault, editFault}
 use Rattle.edits.specs.Closing.{Map}
 
-both : (a b : Bool) → (a && b) ≡ true → (a ≡ true) × (b ≡ true)
-both true b e = (refl, e)
-both false b e = absurd (true≢false (sym e))
-
 pub in-grid : (r : Axes) (c : Cell) → inGrid r c ≡ true → InGrid r c
 in-grid r c h =
-    let p = both (ltb (c .i) (r .r0) && ltb (c .j) (r .r1)) (ltb (c .k) (r .r2)) h in
-    let q = both (ltb (c .i) (r .r0)) (ltb (c .j) (r .r1)) (p .0) in
+    let p = both-true (ltb (c .i) (r .r0) && ltb (c .j) (r .r1)) (ltb (c .k) (r .r2)) h in
+    let q = both-true (ltb (c .i) (r .r0)) (ltb (c .j) (r .r1)) (p .0) in
     record { i-in = ltb-true (c .i) (r .r0) (q .0); j-in = ltb-true (c .j) (r .r1) (q .1); k-in = ltb-true (c .k) (r .r2) (p .1) }
 
 takes-three : (v : ℕ) → takes mapLabels v ≡ true → (v ≡ 6) ⊎ ((v ≡ 7) ⊎ (v ≡ 8))

@@ -120,10 +120,10 @@ module _ (r : Axes) (l : List ℕ) (q : Cell) (d : ℕ) where
   pub second-start : Sheet r l → InGrid r q → (e : List ℕ) (w : Trip) → Walked r 6 d true l q e w → Sheet r e × (at r e q ≡ d)
   second-start fits h e w k = (record { sound = fits .sound; size = k .size ∙ fits .size }, walked-start h e w k)
 
-turned-so : (v d new : ℕ) → v ≡ d → cond (eqb v d) new v ≡ new
+pub turned-so : (v d new : ℕ) → v ≡ d → cond (eqb v d) new v ≡ new
 turned-so v d new e = ap (λ (b : Bool). cond b new v) (eq-eqb v d e)
 
-turned-not : (v d new : ℕ) → (v ≡ d → ⊥) → cond (eqb v d) new v ≡ v
+pub turned-not : (v d new : ℕ) → (v ≡ d → ⊥) → cond (eqb v d) new v ≡ v
 turned-not v d new z = ap (λ (b : Bool). cond b new v) (ne-eqb v d z)
 
 -- every label of q's kind becomes another, by a walk or by a pass
@@ -416,6 +416,10 @@ module _ (r : Axes) (l : List ℕ) (c : Cell) (d : ℕ) (a : Seen) (hc : InGrid 
     seen-place size = omega (arith, size, seen-number, num-lt r q seen-in)
 
 -- ---- one neighbour after the other
+
+-- all ways are done
+pub all-ways : (d : ℕ) → d ≤ 6 → 6 ≤ d → d ≡ 6
+all-ways d g h = omega arith
 
 module _ (r : Axes) (c : Cell) (walks : Bool) (l : List ℕ) where
   pub below-none : SettlesBelow 0 r c walks l l (came 0 0)

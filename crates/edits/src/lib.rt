@@ -1,9 +1,7 @@
 // Opening and closing a cell of a map: which labels change, and how many.
 ghost use mathlib.Core.Path.{_≡_};
-ghost use mathlib.Core.Bool.{true, false, not};
-ghost use Prim.Native.Nat.{_+_, _<_, _≤_};
-ghost use lib.Dec.{eqb};
-ghost use lib.ListN.{length};
+ghost use mathlib.Core.Bool.{true, false};
+ghost use Prim.Native.Nat.{_<_, _≤_};
 ghost use Rattle.grid.specs.Answers.{Ends, _andThen_};
 ghost use Rattle.grid.specs.Checks.{mapFault};
 ghost use Rattle.grid.specs.Flood.{Flooded};

@@ -1,5 +1,5 @@
 -- Laws of checks in a row, and of specs/Checks.antt: a check that finds no fault says that its line of the table does not hold. Assumes nothing.
-use mathlib.Core.Bool.{Bool, true, false, not, _&&_, _||_, true≢false, false≢true}
+use mathlib.Core.Bool.{Bool, true, false, not, _||_, true≢false, false≢true}
 use mathlib.Core.Logic.{_⊎_, inl, inr, ⊎-elim, _↔_}
 use mathlib.Core.Path.{_≡_, refl, sym, ap, _∙_, subst}
 use mathlib.Core.List.{List}
@@ -18,7 +18,7 @@ use Rattle.grid.specs.Answers.{Outcome, answers, refuses, faultAt, fault
 use Rattle.grid.specs.First.{FirstAt, firstNot}
 use Rattle.grid.specs.Grid.{Axis, Sound, cells, Sheet}
 use Rattle.grid.specs.Checks.{firstFault, badAxis, axesFault, bufferFault, gridFault, within, takes, labelsFault, mapFault}
-use Rattle.grid.proofs.First.{or-true, before-first, at-first, first-is, first-one}
+use Rattle.grid.proofs.First.{both-true, or-true, before-first, at-first, first-is, first-one}
 
 -- ---- a row of checks
 
@@ -175,12 +175,8 @@ module _ {A : Type 0} (n : ℕ) (place : ℕ → ℕ) (ok : A → Bool) (d : A) 
 pub taken-means : (s : LabelSet) (v : ℕ) → takes s v ≡ true → ((s .one .low ≤ v) × (v ≤ s .one .high)) ⊎ ((s .other .low ≤ v) × (v ≤ s .other .high))
 taken-means s v h = ⊎-elim (λ e. inl (of (s .one) e)) (λ e. inr (of (s .other) e)) (or-true (within (s .one) v) (within (s .other) v) h)
   where
-    both : (a b : Bool) → (a && b) ≡ true → (a ≡ true) × (b ≡ true)
-    both true b e = (refl, e)
-    both false b e = absurd (true≢false (sym e))
-
     of : (a : Span) → within a v ≡ true → (a .low ≤ v) × (v ≤ a .high)
-    of a e = let q = both (leb (a .low) v) (leb v (a .high)) e in (leb-true (a .low) v (q .0), leb-true v (a .high) (q .1))
+    of a e = let q = both-true (leb (a .low) v) (leb v (a .high)) e in (leb-true (a .low) v (q .0), leb-true v (a .high) (q .1))
 
 -- ---- a call that goes by a relation
 

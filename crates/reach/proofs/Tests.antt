@@ -9,6 +9,7 @@ use Rattle.grid.specs.declared.Axes.{Axes}
 use Rattle.grid.specs.declared.Cell.{Cell}
 use Rattle.grid.specs.Grid.{InGrid, Border, onBorder}
 use Rattle.grid.proofs.Cells.{border-test}
+use Rattle.grid.proofs.First.{both-true}
 use Rattle.reach.specs.Walk.{Marked}
 
 pub true-false : {b : Bool} → b ≡ true → b ≡ false → ⊥
@@ -43,16 +44,12 @@ module _ (stop : Bool) (r : Axes) (c : Cell) (h : InGrid r c) (b : Bool) (u : b 
       of true e _ = true-false (border-test r c h .1 q) e
       of false e t = true-false t refl
 
-both : (p q : Bool) → (p && q) ≡ true → (p ≡ true) × (q ≡ true)
-both true q e = (refl, e)
-both false q e = absurd (true-false e refl)
-
 -- a marked neighbour, likewise
 module _ (stop : Bool) (done v : ℕ) (b : Bool) (u : b ≡ (stop && (ltb v 6 && not (eqb v done)))) where
   pub mark-so : b ≡ true → (stop ≡ true) × Marked done v
   mark-so w =
-      let p = both stop (ltb v 6 && not (eqb v done)) (sym u ∙ w) in
-      let q = both (ltb v 6) (not (eqb v done)) (p .1) in
+      let p = both-true stop (ltb v 6 && not (eqb v done)) (sym u ∙ w) in
+      let q = both-true (ltb v 6) (not (eqb v done)) (p .1) in
       (p .0, (ltb-true v 6 (q .0), λ e. other (eqb v done) (eq-eqb v done e) (q .1)))
     where
       other : (x : Bool) → x ≡ true → not x ≡ true → ⊥

@@ -2,7 +2,7 @@
 // back lies in the labels.
 ghost use mathlib.Core.Path.{_≡_};
 ghost use mathlib.Core.Bool.{true, false, _&&_, not, cond};
-ghost use Prim.Native.Nat.{_≤_, _<_};
+ghost use Prim.Native.Nat.{_<_};
 ghost use lib.Dec.{eqb, ltb};
 ghost use Rattle.grid.specs.Grid.{num, InGrid, Sound, Sheet, onBorder};
 ghost use Rattle.grid.specs.Ways.{room, beside, counter};

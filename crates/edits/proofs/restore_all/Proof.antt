@@ -1,15 +1,13 @@
 -- `edits::restore_all` meets its contract: one pass, or way by way. Assumes nothing.
-use mathlib.Core.Path.{_≡_, refl, subst}
+use mathlib.Core.Path.{refl, subst}
 use Prim.Native.Nat.{ℕ, _-_, _≤_}
 use native.Mathlib.Omega.{arith}
 use Rattle.grid.proofs.Cells.{sheet-kept}
 use Rattle.edits.specs.Closing.{RestoresBelow}
+use Rattle.edits.proofs.Settlings.{all-ways}
 use Rattle.edits.proofs.Closings.{restores-none, restores-more, restores-swept}
 use Rattle.edits.proofs.restore_all.Statement.{statement}
 use Rattle.edits.proofs.restore_all.Tie as tie
-
-six : (d : ℕ) → d ≤ 6 → 6 ≤ d → d ≡ 6
-six d g h = omega arith
 
 abbrev Inv-loop : tie.InvT-loop
 Inv-loop l₀ r c n marked len d₀ l d = (d ≤ 6) × RestoresBelow d r c l₀ l
@@ -45,7 +43,7 @@ same-length-2 : tie.Need-same-length-2 Inv-loop μ-loop
 same-length-2 c = c .before .loop .inv .1 .size
 
 returns-2 : tie.Need-returns-2 Inv-loop μ-loop
-returns-2 c = let a = c .before .before .before .before .args in let o = c .before .loop in subst (λ (t : ℕ). RestoresBelow t (a .r) (a .c) (a .l .now) (o .l)) (six (o .d) (o .inv .0) (c .loop-test .left)) (o .inv .1)
+returns-2 c = let a = c .before .before .before .before .args in let o = c .before .loop in subst (λ (t : ℕ). RestoresBelow t (a .r) (a .c) (a .l .now) (o .l)) (all-ways (o .d) (o .inv .0) (c .loop-test .left)) (o .inv .1)
 
 pub restore-all-spec : {M : Type 1} → statement M
 restore-all-spec =

@@ -1,15 +1,12 @@
 -- `edits::settle_all` meets its contract: way by way. Assumes nothing.
-use mathlib.Core.Path.{_≡_, subst}
+use mathlib.Core.Path.{subst}
 use Prim.Native.Nat.{ℕ, _-_, _≤_}
 use native.Mathlib.Omega.{arith}
 use Rattle.grid.proofs.Cells.{sheet-kept}
 use Rattle.edits.specs.Closing.{SettlesBelow}
-use Rattle.edits.proofs.Settlings.{came, below-none, below-more}
+use Rattle.edits.proofs.Settlings.{came, all-ways, below-none, below-more}
 use Rattle.edits.proofs.settle_all.Statement.{statement}
 use Rattle.edits.proofs.settle_all.Tie as tie
-
-six : (d : ℕ) → d ≤ 6 → 6 ≤ d → d ≡ 6
-six d g h = omega arith
 
 abbrev Inv-loop : tie.InvT-loop
 Inv-loop l₀ r c n walks sealed₀ marked₀ d₀ l sealed marked d = (d ≤ 6) × SettlesBelow d r c walks l₀ l (came sealed marked)
@@ -42,7 +39,7 @@ same-length : tie.Need-same-length Inv-loop μ-loop
 same-length c = c .before .loop .inv .1 .size
 
 returns : tie.Need-returns Inv-loop μ-loop
-returns c = let a = c .before .before .before .args in let o = c .before .loop in subst (λ (t : ℕ). SettlesBelow t (a .r) (a .c) (a .walks) (a .l .now) (o .l) (came (o .sealed) (o .marked))) (six (o .d) (o .inv .0) (c .loop-test .left)) (o .inv .1)
+returns c = let a = c .before .before .before .args in let o = c .before .loop in subst (λ (t : ℕ). SettlesBelow t (a .r) (a .c) (a .walks) (a .l .now) (o .l) (came (o .sealed) (o .marked))) (all-ways (o .d) (o .inv .0) (c .loop-test .left)) (o .inv .1)
 
 pub settle-all-spec : {M : Type 1} → statement M
 settle-all-spec =

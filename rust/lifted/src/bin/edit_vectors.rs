@@ -33,6 +33,7 @@
 //! are a fill without cavities, those after it are compared with a fresh flood of the surface cells. The cases chosen
 //! by hand come first; random ones, from a fixed seed, follow. How many there are of each family is printed.
 
+use lifted::shapes::{serpentine, spiral, Cell};
 use std::collections::{HashSet, VecDeque};
 use std::time::Instant;
 
@@ -43,8 +44,6 @@ const INSIDE: u8 = 7;
 const SURFACE: u8 = 8;
 const OPEN: u32 = 0;
 const CLOSE: u32 = 1;
-
-type Cell = [u32; 3];
 
 // ---- cases
 
@@ -672,40 +671,6 @@ fn unfilled(out: &mut Vec<Case>) {
         out.push(each(PLAIN.labelled([4, 5, 6], |_| label, &[])));
         out.push(PLAIN.patterned([4, 5, 6], |_| EDITED + label));
     }
-}
-
-/// The cells of a corridor that runs to and fro through every layer of a cube of odd side.
-fn serpentine(side: u32) -> Vec<Cell> {
-    let rows = (side - 1) / 2;
-    let place = |q: u32| {
-        let (layer, row) = (q / rows, q % rows);
-        [1 + 2 * if layer % 2 == 0 { row } else { rows - 1 - row }, 1 + 2 * layer]
-    };
-    let mut cells = vec![];
-    for q in 0..rows * rows {
-        let ([j, k], [y, z]) = (place(q), place(q + 1));
-        cells.extend((1..side - 1).map(|i| [i, j, k]));
-        cells.push([if q % 2 == 0 { side - 2 } else { 1 }, (j + y) / 2, (k + z) / 2]);
-    }
-    cells.pop();
-    cells
-}
-
-/// The cells of a square spiral of odd side, from (1, 1) to its middle.
-fn spiral(side: i32) -> Vec<Cell> {
-    let (mut path, mut way, mut turns) = (vec![[1, 1]], [1, 0], 0);
-    while turns < 2 {
-        let at: [i32; 2] = path[path.len() - 1];
-        let step = |n: i32| [at[0] + n * way[0], at[1] + n * way[1]];
-        if step(1).iter().all(|x| (1..side - 1).contains(x)) && !path.contains(&step(2)) {
-            path.push(step(1));
-            turns = 0;
-        } else {
-            way = [-way[1], way[0]];
-            turns += 1;
-        }
-    }
-    path.iter().map(|p| [p[0] as u32, p[1] as u32, 1]).collect()
 }
 
 /// Corridors with many bends, from a way out at their start, at their end, at both or at none: closed at every

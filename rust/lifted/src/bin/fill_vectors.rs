@@ -22,14 +22,13 @@
 //! are of each family is printed.
 
 use lifted::fill::{FillMode, VoxelizedVolume};
+use lifted::shapes::{serpentine, spiral, Cell};
 use std::time::{Duration, Instant};
 
 const LIMIT: usize = 65536;
 const FLOOD: FillMode = FillMode::FloodFill { detect_cavities: false };
 const CAVITIES: FillMode = FillMode::FloodFill { detect_cavities: true };
 const MODES: [FillMode; 3] = [FillMode::SurfaceOnly, FLOOD, CAVITIES];
-
-type Cell = [u32; 3];
 
 #[derive(Clone)]
 enum Marks {
@@ -364,23 +363,6 @@ fn plugs(out: &mut Vec<Case>) {
     (63..=66).for_each(|plug| plugged(plug + 7, &|k| k != plug));
 }
 
-/// The cells of a square spiral of odd side, from (1, 1) to its middle.
-fn spiral(side: i32) -> Vec<Cell> {
-    let (mut path, mut way, mut turns) = (vec![[1, 1]], [1, 0], 0);
-    while turns < 2 {
-        let at: [i32; 2] = path[path.len() - 1];
-        let step = |n: i32| [at[0] + n * way[0], at[1] + n * way[1]];
-        if step(1).iter().all(|x| (1..side - 1).contains(x)) && !path.contains(&step(2)) {
-            path.push(step(1));
-            turns = 0;
-        } else {
-            way = [-way[1], way[0]];
-            turns += 1;
-        }
-    }
-    path.iter().map(|p| [p[0] as u32, p[1] as u32, 1]).collect()
-}
-
 /// A spiral between two marked layers: closed, open, open but for a marked cell at its start, or open in the middle.
 fn spiral_case(side: u32, turn: usize, entrance: usize, mirrored: bool) -> Case {
     let mut cells = spiral(side as i32);
@@ -400,23 +382,6 @@ fn spirals(out: &mut Vec<Case>) {
         out.extend([11, 19].map(|side| spiral_case(side, n % 3, n / 3, side == 19)));
     }
     out.extend((0..4).map(|n| spiral_case(61, n % 3, 1 + n / 3, n % 2 == 1)));
-}
-
-/// The cells of a corridor that runs to and fro through every layer of a cube of odd side.
-fn serpentine(side: u32) -> Vec<Cell> {
-    let rows = (side - 1) / 2;
-    let place = |q: u32| {
-        let (layer, row) = (q / rows, q % rows);
-        [1 + 2 * if layer % 2 == 0 { row } else { rows - 1 - row }, 1 + 2 * layer]
-    };
-    let mut cells = vec![];
-    for q in 0..rows * rows {
-        let ([j, k], [y, z]) = (place(q), place(q + 1));
-        cells.extend((1..side - 1).map(|i| [i, j, k]));
-        cells.push([if q % 2 == 0 { side - 2 } else { 1 }, (j + y) / 2, (k + z) / 2]);
-    }
-    cells.pop();
-    cells
 }
 
 /// Serpentines open at their start, at their end, or not at all.
