@@ -59,7 +59,7 @@ fn open_surface(l: &mut [u8], r: Axes, c: Cell) -> usize
 
 // ---- closing: the neighbours of c, whose number is n, are settled one after the other. One that has a way
 // to the border takes the number of its way as its label, and so does all that the walk to the border met;
-// later walks end there, so that no cell is walked over twice. When all are settled these labels are 6 again.
+// later walks end there, so that no cell is walked over twice in search of it. At last the marks are 6 again.
 
 // How many cells became 7, and how many were marked with a label under 6.
 pub struct Settled {
