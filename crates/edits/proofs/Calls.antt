@@ -18,10 +18,10 @@ use Rattle.edits.proofs.Fresh.{fresh-open, fresh-close}
 pub edited-flooded : (r : Axes) (e : Edit) (l : List ℕ) (n : ℕ) (m : List ℕ) → editFault r l e ≡ Fine → Edited r l e n m → Flooded r l l → Flooded r m m
 edited-flooded r (opening c) l n m h k fl =
     let s = edit-sound r l c true h in
-    fresh-open r l fl c (s .within) m (s .sheet .size) (is-surface (at r l c) (s .kind)) (k .each)
+    fresh-open r l fl c (s .within) m (s .sheet .size) (is-surface (at r l c) .0 (s .kind)) (k .each)
 edited-flooded r (closing c) l n m h k fl =
     let s = edit-sound r l c false h in
-    fresh-close r l fl c (s .within) m (s .sheet .size) (no-surface (at r l c) (s .kind)) (k .each)
+    fresh-close r l fl c (s .within) m (s .sheet .size) (no-surface (at r l c) .0 (s .kind)) (k .each)
 
 -- refused or not
 pub call-flooded : (r : Axes) (e : Edit) (l : List ℕ) (o : Outcome ℕ) (m : List ℕ) → Call r e l o m → Flooded r l l → Flooded r m m

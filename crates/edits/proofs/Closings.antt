@@ -24,7 +24,7 @@ use Rattle.reach.specs.Walk.{wayOf, Sees}
 use Rattle.reach.proofs.Ways.{numberOf, way-numbered, numbered-low}
 use Rattle.edits.specs.declared.Settled.{Settled}
 use Rattle.edits.specs.Edits.{closing, lidded, HasWay, Closes, lid, sealed, stays, changed, Edited}
-use Rattle.edits.specs.Closing.{Map, FromBeside, Stands, as-was, marked, cut, Rooted, Roots, Standing, Turns, SettlesBelow, Restores, RestoresBelow}
+use Rattle.edits.specs.Closing.{Map, FromBeside, Stands, as-was, marked, cut, Rooted, Roots, Standing, Turns, Settles, Restores, isMark, isBelow}
 use Rattle.edits.proofs.Changes.{by-place, changed-count, count-kept, changed-one}
 use Rattle.edits.proofs.Settlings.{way-on, through-label, through-keep, root-keep, turned-so, turned-not}
 
@@ -43,7 +43,7 @@ below-not : (v t : ℕ) → t ≤ v → cond (ltb v t) 6 v ≡ v
 below-not v t h = if-not (ltb v t) 6 v (le-ltb v t h)
 
 module _ (r : Axes) (c : Cell) (hc : InGrid r c) (d : ℕ) (low : d < 6) (l : List ℕ) (fits : Sheet r l) where
-  pub restored-none : (a : Seen) → Sees r l c d a → (a .label ≡ d → ⊥) → Restores r c d l l
+  pub restored-none : (a : Seen) → Sees r l c d a → (a .label ≡ d → ⊥) → Restores (isMark d) r c l l
   restored-none a s z = record {
     size = refl;
     each = λ roots x h. sym (turned-not (at r l x) d 6 (λ e.
@@ -51,18 +51,18 @@ module _ (r : Axes) (c : Cell) (hc : InGrid r c) (d : ℕ) (low : d < 6) (l : Li
         z (s .label (k .some) ∙ k .root)));
   }
 
-  pub restored : (e : List ℕ) → Turns r (beside (wayOf d) c) d 6 l e → Restores r c d l e
+  pub restored : (e : List ℕ) → Turns r (beside (wayOf d) c) d 6 l e → Restores (isMark d) r c l e
   restored e k = record {
     size = k .size;
     each = λ roots. k .each (λ y g p. subst (λ (v : ℕ). Rooted r c l v y) p (roots y g (subst (λ (v : ℕ). v < 6) (sym p) low)) .path);
   }
 
 module _ (r : Axes) (c : Cell) (l : List ℕ) where
-  pub restores-none : RestoresBelow 0 r c l l
+  pub restores-none : Restores (isBelow 0) r c l l
   restores-none = record { size = refl; each = λ _ x h. sym (below-not (at r l x) 0 (omega arith)) }
 
   -- all of them in one pass
-  pub restores-swept : length l ≡ cells r → (n : ℕ) (e : List ℕ) → n ≡ length l → Within 0 n (λ _. becomes 0 5 6) l e → RestoresBelow 6 r c l e
+  pub restores-swept : length l ≡ cells r → (n : ℕ) (e : List ℕ) → n ≡ length l → Within 0 n (λ _. becomes 0 5 6) l e → Restores (isBelow 6) r c l e
   restores-swept size n e len k = record { size = k .size; each = λ _ x h. k .passed (num r x) zero-le (omega (arith, len, size, num-lt r x h)) ∙ same (at r l x) }
     where
       same : (v : ℕ) → becomes 0 5 6 v ≡ cond (ltb v 6) 6 v
@@ -71,7 +71,7 @@ module _ (r : Axes) (c : Cell) (l : List ℕ) where
           (λ g. ap (λ (b : Bool). cond b 6 v) (λ t. le-leb 0 v zero-le t && le-leb v 5 (omega arith) t) ∙ sym (below-so v 6 g))
           (le-or-lt 6 v)
 
-  pub restores-more : InGrid r c → (t : ℕ) → t < 6 → (a e : List ℕ) → RestoresBelow t r c l a → Restores r c t a e → RestoresBelow (t + 1) r c l e
+  pub restores-more : InGrid r c → (t : ℕ) → t < 6 → (a e : List ℕ) → Restores (isBelow t) r c l a → Restores (isMark t) r c a e → Restores (isBelow (t + 1)) r c l e
   restores-more hc t low a e s o = record {
     size = o .size ∙ s .size;
     each = λ roots x h. o .each (left roots) x h ∙ both (at r l x) (at r a x) (s .each roots x h);
@@ -236,11 +236,11 @@ module _ (r : Axes) (m : List ℕ) (c : Cell) (fits : Sheet r m) (mp : Map r m) 
 
   -- as the code has it: i is c's number, and the neighbours are settled twice
   pub closed-steps : (i : ℕ) → i ≡ num r c → getD m i 0 ≡ 6 → (a b f : List ℕ) (j k : Settled)
-      → SettlesBelow 6 r c false (set m i 8) a j → SettlesBelow 6 r c true a b k → RestoresBelow 6 r c b f → Edited r m (closing c) (k .sealed + 1) f
+      → Settles 0 6 r c false (set m i 8) a j → Settles 0 6 r c true a b k → Restores (isBelow 6) r c b f → Edited r m (closing c) (k .sealed + 1) f
   closed-steps i e six a b f j k s t u =
-      let first = subst (λ (x : ℕ). SettlesBelow 6 r c false (set m x 8) a j) e s in
+      let first = subst (λ (x : ℕ). Settles 0 6 r c false (set m x 8) a j) e s in
       let st = subst (Standing r m₈ c b) (sum (j .sealed) (k .sealed) (first .still refl)) (t .keeps m₈ (0 + j .sealed) map₈ (first .keeps m₈ 0 map₈ standing)) in
-      closed-up (ap (λ (x : ℕ). getD m x 0) (sym e) ∙ six) b f (k .sealed) st (t .sides refl) (u .size) (u .each (st .rooted))
+      closed-up (ap (λ (x : ℕ). getD m x 0) (sym e) ∙ six) b f (k .sealed) st (λ d h. t .sides refl d zero-le h) (u .size) (u .each (st .rooted))
     where
       sum : (j k : ℕ) → j ≡ 0 → 0 + j + k ≡ k
       sum j k e = omega arith

@@ -1,12 +1,12 @@
 -- What an edit's checks leave: a map of labels 6, 7 and 8, a cell of it, and the right kind of cell. Assumes nothing.
 use mathlib.Core.Bool.{Bool, true, false, not, _&&_}
-use mathlib.Core.Logic.{_⊎_, inl, inr, ⊎-elim}
-use mathlib.Core.Path.{_≡_, sym, subst}
+use mathlib.Core.Logic.{_⊎_, inl, inr, ⊎-elim, _↔_}
+use mathlib.Core.Path.{_≡_, sym, ap, subst}
 use mathlib.Core.List.{List, [], _∷_}
 use Prim.Native.Nat.{ℕ, _<_, _≤_}
 use native.Mathlib.Omega.{arith}
 use lib.Dec.{ltb, eqb}
-use borrow.Author.Tests.{ltb-true, eqb-true, eqb-false, not-false}
+use borrow.Author.Tests.{ltb-true, lt-ltb, eqb-true, eqb-false, eq-eqb, ne-eqb, not-false}
 use Rattle.grid.specs.declared.Axes.{Axes}
 use Rattle.grid.specs.declared.Cell.{Cell}
 use Rattle.grid.specs.declared.Checked.the-variants.{Fine}
@@ -19,11 +19,18 @@ use Rattle.grid.proofs.Checks.{both-fine, passed, taken-means, map-fine, finds-
 use Rattle.edits.specs.Edits.{Edit, opening, closing, mapLabels, inGrid, wrongKind, cellFault, editFault}
 use Rattle.edits.specs.Closing.{Map}
 
-pub in-grid : (r : Axes) (c : Cell) → inGrid r c ≡ true → InGrid r c
-in-grid r c h =
-    let p = both-true (ltb (c .i) (r .r0) && ltb (c .j) (r .r1)) (ltb (c .k) (r .r2)) h in
-    let q = both-true (ltb (c .i) (r .r0)) (ltb (c .j) (r .r1)) (p .0) in
-    record { i-in = ltb-true (c .i) (r .r0) (q .0); j-in = ltb-true (c .j) (r .r1) (q .1); k-in = ltb-true (c .k) (r .r2) (p .1) }
+-- 12 is given exactly for a cell that is not of the grid
+pub in-grid : (r : Axes) (c : Cell) → (inGrid r c ≡ true) ↔ InGrid r c
+in-grid r c = (to, back)
+  where
+    to : inGrid r c ≡ true → InGrid r c
+    to h =
+        let p = both-true (ltb (c .i) (r .r0) && ltb (c .j) (r .r1)) (ltb (c .k) (r .r2)) h in
+        let q = both-true (ltb (c .i) (r .r0)) (ltb (c .j) (r .r1)) (p .0) in
+        record { i-in = ltb-true (c .i) (r .r0) (q .0); j-in = ltb-true (c .j) (r .r1) (q .1); k-in = ltb-true (c .k) (r .r2) (p .1) }
+
+    back : InGrid r c → inGrid r c ≡ true
+    back h = λ t. (lt-ltb (c .i) (r .r0) (h .i-in) t && lt-ltb (c .j) (r .r1) (h .j-in) t) && lt-ltb (c .k) (r .r2) (h .k-in) t
 
 takes-three : (v : ℕ) → takes mapLabels v ≡ true → (v ≡ 6) ⊎ ((v ≡ 7) ⊎ (v ≡ 8))
 takes-three v h = ⊎-elim (λ e. of (e .0) (e .1)) (λ e. of (e .0) (e .1)) (taken-means mapLabels v h)
@@ -46,15 +53,16 @@ edit-sound r l c surface h =
     record {
       sheet = m .0;
       map = λ d g. takes-three (at r l d) (m .1 (num r d) (subst (λ (n : ℕ). num r d < n) (sym (m .0 .size)) (num-lt r d g)));
-      within = in-grid r c (not-false (inGrid r c) (f .0));
+      within = in-grid r c .0 (not-false (inGrid r c) (f .0));
       kind = passed (wrongKind surface (at r l c)) 13 0 Fine (f .1) .0;
     }
 
-pub is-surface : (v : ℕ) → wrongKind true v ≡ false → v ≡ 8
-is-surface v h = eqb-true v 8 (not-false (eqb v 8) h)
+-- 13 exactly for an opening of a cell that is no surface, and for a closing of one that is
+pub is-surface : (v : ℕ) → (wrongKind true v ≡ false) ↔ (v ≡ 8)
+is-surface v = ((λ h. eqb-true v 8 (not-false (eqb v 8) h)), λ e. ap not (eq-eqb v 8 e))
 
-pub no-surface : (v : ℕ) → wrongKind false v ≡ false → v ≡ 8 → ⊥
-no-surface v h = eqb-false v 8 h
+pub no-surface : (v : ℕ) → (wrongKind false v ≡ false) ↔ (v ≡ 8 → ⊥)
+no-surface v = (eqb-false v 8, ne-eqb v 8)
 
 -- which numbers the calls give: 8, 9, 11, 12 and 13
 pub edit-finds : (r : Axes) (l : List ℕ) (e : Edit) → Finds (8 ∷ 9 ∷ 11 ∷ 12 ∷ 13 ∷ []) (editFault r l e)

@@ -27,7 +27,7 @@ use Rattle.reach.proofs.Tests.{true-false}
 use Rattle.reach.proofs.Ways.{seen-room}
 use Rattle.edits.specs.declared.Settled.{Settled}
 use Rattle.edits.specs.Edits.{HasWay}
-use Rattle.edits.specs.Closing.{Map, Stands, as-was, marked, cut, Rooted, Standing, Turns, Seals, way-out, cut-off, Settles, SettlesBelow}
+use Rattle.edits.specs.Closing.{Map, Stands, as-was, marked, cut, Rooted, Standing, Turns, Seals, way-out, cut-off, Settles}
 use Rattle.edits.proofs.Changes.{by-place, count-kept, count-turned}
 use Rattle.edits.proofs.Openings.{reached}
 
@@ -190,14 +190,21 @@ module _ (r : Axes) (c : Cell) (hc : InGrid r c) (d : ℕ) (low : d < 6) (walks 
       plus : (n : ℕ) → n ≡ n + 0
       plus n = omega arith
 
-  -- no label changes
-  unchanged : (walks ≡ true → 0 < room r (wayOf d) c → at r l (beside (wayOf d) c) ≡ 6 → ⊥) → Settles r c d walks l l (came 0 0)
-  unchanged z = record { size = refl; fewer = λ x h q. q; side = z; few = zero-le; some = zero-le; still = λ _. refl; keeps = λ m n mp st. nothing l n m st }
+  -- the one way from d up to d + 1
+  one-way : (e : List ℕ) (x : ℕ) → d ≤ x → x < d + 1 → (0 < room r (wayOf d) c → at r e (beside (wayOf d) c) ≡ 6 → ⊥) → 0 < room r (wayOf x) c → at r e (beside (wayOf x) c) ≡ 6 → ⊥
+  one-way e x p q k = subst (λ (y : ℕ). 0 < room r (wayOf y) c → at r e (beside (wayOf y) c) ≡ 6 → ⊥) (same x p q) k
+    where
+      same : (x : ℕ) → d ≤ x → x < d + 1 → d ≡ x
+      same x p q = omega arith
 
-  pub settled-other : (a : Seen) → Sees r l c d a → (a .label ≡ 6 → ⊥) → Settles r c d walks l l (came 0 0)
+  -- no label changes
+  unchanged : (walks ≡ true → 0 < room r (wayOf d) c → at r l (beside (wayOf d) c) ≡ 6 → ⊥) → Settles d (d + 1) r c walks l l (came 0 0)
+  unchanged z = record { size = refl; fewer = λ x h q. q; sides = λ w x p q. one-way l x p q (z w); few = omega arith; some = omega arith; still = λ _. refl; keeps = λ m n mp st. nothing l n m st }
+
+  pub settled-other : (a : Seen) → Sees r l c d a → (a .label ≡ 6 → ⊥) → Settles d (d + 1) r c walks l l (came 0 0)
   settled-other a s z = unchanged (λ _ g q. z (s .label g ∙ q))
 
-  pub settled-later : walks ≡ false → Settles r c d walks l l (came 0 0)
+  pub settled-later : walks ≡ false → Settles d (d + 1) r c walks l l (came 0 0)
   settled-later w = unchanged (λ t. absurd (true-false t w))
 
   module _ (some : 0 < room r (wayOf d) c) (six : at r l (beside (wayOf d) c) ≡ 6) where
@@ -261,19 +268,19 @@ module _ (r : Axes) (c : Cell) (hc : InGrid r c) (d : ℕ) (low : d < 6) (walks 
           has-way : {x : Cell} → Through r l 6 q x → HasWay r m x
           has-way u = way-on r m q-way (path-was r c l m n mp st q u)
 
-      marking : (j : ℕ) → j ≤ 16777216 → Settles r c d walks l e (came 0 j)
+      marking : (j : ℕ) → j ≤ 16777216 → Settles d (d + 1) r c walks l e (came 0 j)
       marking j some = record {
         size = size;
         fewer = λ x h p. ⊎-elim (λ a. absurd (not-both _ d 6 (omega arith) (a .2) p)) (λ a. sym (a .1) ∙ p) (each x h);
-        side = λ _ _ p. ⊎-elim (λ a. not-both _ d 6 (omega arith) (a .2) p) (λ a. a .0 refl) (each q hq);
-        few = zero-le;
-        some = some;
+        sides = λ _ x p q. one-way e x p q (λ _ g. ⊎-elim (λ a. not-both _ d 6 (omega arith) (a .2) g) (λ a. a .0 refl) (each (beside (wayOf d) c) hq));
+        few = omega arith;
+        some = omega (arith, some);
         still = λ _. refl;
         keeps = marking-keeps;
       }
 
     -- a look found a way
-    pub settled-found : (i : ℕ) → i ≡ num r q → Leads r l q → Settles r c d walks l (set l i d) (came 0 1)
+    pub settled-found : (i : ℕ) → i ≡ num r q → Leads r l q → Settles d (d + 1) r c walks l (set l i d) (came 0 1)
     settled-found i e (t, u, x) = rw e (marking (set l (num r q) d) (length-set l (num r q) d) each 6 t u x 1 (omega arith))
       where
         each : (x : Cell) → InGrid r x → (Through r l 6 q x × Through r (set l (num r q) d) d q x × (at r (set l (num r q) d) x ≡ d)) ⊎ ((x ≡ q → ⊥) × (at r (set l (num r q) d) x ≡ at r l x))
@@ -287,7 +294,7 @@ module _ (r : Axes) (c : Cell) (hc : InGrid r c) (d : ℕ) (low : d < 6) (walks 
       walk-few : w₁ .count ≤ 16777216
       walk-few = omega (arith, k₁ .counted, count-most (λ x. eqb x d) l₁, k₁ .size, fits .size, cells-max r (fits .sound))
 
-      settled-out : w₁ .met ≡ true → Settles r c d walks l l₁ (came 0 (w₁ .count))
+      settled-out : w₁ .met ≡ true → Settles d (d + 1) r c walks l l₁ (came 0 (w₁ .count))
       settled-out met = let x = k₁ .met-at met in marking l₁ (k₁ .size) (k₁ .each) d (x .1) (x .2) (x .3) (w₁ .count) walk-few
 
       -- it met none, and what it set is turned
@@ -378,20 +385,20 @@ module _ (r : Axes) (c : Cell) (hc : InGrid r c) (d : ℕ) (low : d < 6) (walks 
               q-six : at r m q ≡ 6
               q-six = six-was r c l m n mp st q hq six
 
-        settled-in : walks ≡ true → Settles r c d walks l e (came (w₁ .count) 0)
+        settled-in : walks ≡ true → Settles d (d + 1) r c walks l e (came (w₁ .count) 0)
         settled-in w = record {
           size = k₂ .size ∙ k₁ .size;
           fewer = fewer;
-          side = λ _ _ p. ⊎-elim (λ a. not-both _ 7 6 (omega arith) a p) (λ a. not-both _ d 6 (omega arith) (a ∙ at-q₁) p) (seven-or q hq);
-          few = walk-few;
-          some = zero-le;
+          sides = λ _ x y z. one-way e x y z (λ _ p. ⊎-elim (λ a. not-both _ 7 6 (omega arith) a p) (λ a. not-both _ d 6 (omega arith) (a ∙ at-q₁) p) (seven-or q hq));
+          few = omega (arith, walk-few);
+          some = omega arith;
           still = λ z. absurd (true-false w z);
           keeps = λ m n mp st. cutting-keeps m n mp st;
         }
 
-    pub settled-sealed : walks ≡ true → (e : List ℕ) (s : Settled) → Seals r l q d e s → Settles r c d walks l e s
-    settled-sealed w e s (way-out w₁ k₁ met y z) = subst (Settles r c d walks l e) (came-so s 0 (w₁ .count) y z) (settled-out e w₁ k₁ met)
-    settled-sealed w e s (cut-off w₁ l₁ k₁ free k₂ y z) = subst (Settles r c d walks l e) (came-so s (w₁ .count) 0 y z) (settled-in l₁ w₁ k₁ free e k₂ w)
+    pub settled-sealed : walks ≡ true → (e : List ℕ) (s : Settled) → Seals r l q d e s → Settles d (d + 1) r c walks l e s
+    settled-sealed w e s (way-out w₁ k₁ met y z) = subst (Settles d (d + 1) r c walks l e) (came-so s 0 (w₁ .count) y z) (settled-out e w₁ k₁ met)
+    settled-sealed w e s (cut-off w₁ l₁ k₁ free k₂ y z) = subst (Settles d (d + 1) r c walks l e) (came-so s (w₁ .count) 0 y z) (settled-in l₁ w₁ k₁ free e k₂ w)
 
 -- ---- the neighbour as the code has it: a look saw that it is 6
 
@@ -422,11 +429,11 @@ pub all-ways : (d : ℕ) → d ≤ 6 → 6 ≤ d → d ≡ 6
 all-ways d g h = omega arith
 
 module _ (r : Axes) (c : Cell) (walks : Bool) (l : List ℕ) where
-  pub below-none : SettlesBelow 0 r c walks l l (came 0 0)
-  below-none = record {
+  pub settles-none : Settles 0 0 r c walks l l (came 0 0)
+  settles-none = record {
     size = refl;
     fewer = λ x h q. q;
-    sides = λ _ d h. absurd (never d h);
+    sides = λ _ d g h. absurd (never d h);
     few = zero-le;
     some = zero-le;
     still = λ _. refl;
@@ -439,17 +446,18 @@ module _ (r : Axes) (c : Cell) (walks : Bool) (l : List ℕ) where
       plus : (n : ℕ) → n ≡ n + 0
       plus n = omega arith
 
-  pub below-more : InGrid r c → (t : ℕ) (a e : List ℕ) (k j : ℕ) (o : Settled) → SettlesBelow t r c walks l a (came k j) → Settles r c t walks a e o → SettlesBelow (t + 1) r c walks l e (came (k + o .sealed) (j + o .marked))
-  below-more hc t a e k j u s o = record {
-    size = o .size ∙ s .size;
-    fewer = λ x h p. s .fewer x h (o .fewer x h p);
-    sides = λ w d h. dec-eq d t
-        (λ i. subst (λ (x : ℕ). 0 < room r (wayOf x) c → at r e (beside (wayOf x) c) ≡ 6 → ⊥) (sym i) (o .side w))
-        (λ i g p. s .sides w d (omega arith) g (o .fewer (beside (wayOf d) c) (beside-in r c (wayOf d) hc g) p));
-    few = omega (arith, s .few, o .few);
-    some = omega (arith, s .some, o .some);
-    still = λ w. omega (arith, s .still w, o .still w);
-    keeps = λ m n mp st. subst (Standing r m c e) (plus n k (u .sealed)) (o .keeps m (n + k) mp (s .keeps m n mp st));
+  pub settles-then : InGrid r c → (i j k : ℕ) (a e : List ℕ) (s t : Settled) → Settles i j r c walks l a s → Settles j k r c walks a e t → Settles i k r c walks l e (came (s .sealed + t .sealed) (s .marked + t .marked))
+  settles-then hc i j k a e s t u o = record {
+    size = o .size ∙ u .size;
+    fewer = λ x h p. u .fewer x h (o .fewer x h p);
+    sides = λ w d g h room p. ⊎-elim
+        (λ q. o .sides w d q h room p)
+        (λ q. u .sides w d g q room (o .fewer (beside (wayOf d) c) (beside-in r c (wayOf d) hc room) p))
+        (le-or-lt j d);
+    few = omega (arith, u .few, o .few);
+    some = omega (arith, u .some, o .some);
+    still = λ w. omega (arith, u .still w, o .still w);
+    keeps = λ m n mp st. subst (Standing r m c e) (plus n (s .sealed) (t .sealed)) (o .keeps m (n + s .sealed) mp (u .keeps m n mp st));
   }
     where
       plus : (n k j : ℕ) → n + k + j ≡ n + (k + j)

@@ -59,32 +59,24 @@ pub data Seals (r : Axes) (before : List ℕ) (q : Cell) (d : ℕ) (after : List
   way-out : (w : Trip) → Walked r 6 d true before q after w → w .met ≡ true → s .sealed ≡ 0 → s .marked ≡ w .count → Seals r before q d after s
   cut-off : (w : Trip) (l : List ℕ) → Walked r 6 d true before q l w → w .met ≡ false → Turns r q d 7 l after → s .sealed ≡ w .count → s .marked ≡ 0 → Seals r before q d after s
 
--- what settling the ways below t does: so many cells more become 7, no label becomes 6, and if walks may be made no such neighbour stays 6, else none becomes 7
-pub record SettlesBelow (t : ℕ) (r : Axes) (c : Cell) (walks : Bool) (before after : List ℕ) (s : Settled) : Type 0 where
+-- what settling the ways from a up to, not including, b does: so many cells more become 7, no label becomes 6, and if walks may be made no such neighbour stays 6, else none becomes 7
+pub record Settles (a b : ℕ) (r : Axes) (c : Cell) (walks : Bool) (before after : List ℕ) (s : Settled) : Type 0 where
   pub size : length after ≡ length before
   pub fewer : (x : Cell) → InGrid r x → at r after x ≡ 6 → at r before x ≡ 6
-  pub sides : walks ≡ true → (d : ℕ) → d < t → 0 < room r (wayOf d) c → at r after (beside (wayOf d) c) ≡ 6 → ⊥
-  pub few : s .sealed ≤ t * 16777216
-  pub some : s .marked ≤ t * 16777216
+  pub sides : walks ≡ true → (d : ℕ) → a ≤ d → d < b → 0 < room r (wayOf d) c → at r after (beside (wayOf d) c) ≡ 6 → ⊥
+  pub few : s .sealed + a * 16777216 ≤ b * 16777216
+  pub some : s .marked + a * 16777216 ≤ b * 16777216
   pub still : walks ≡ false → s .sealed ≡ 0
   pub keeps : (m : List ℕ) (n : ℕ) → Map r m → Standing r m c before n → Standing r m c after (n + s .sealed)
 
--- and settling one way
-pub record Settles (r : Axes) (c : Cell) (d : ℕ) (walks : Bool) (before after : List ℕ) (s : Settled) : Type 0 where
+-- the marks that pass a test become 6 again
+pub record Restores (which : ℕ → Bool) (r : Axes) (c : Cell) (before after : List ℕ) : Type 0 where
   pub size : length after ≡ length before
-  pub fewer : (x : Cell) → InGrid r x → at r after x ≡ 6 → at r before x ≡ 6
-  pub side : walks ≡ true → 0 < room r (wayOf d) c → at r after (beside (wayOf d) c) ≡ 6 → ⊥
-  pub few : s .sealed ≤ 16777216
-  pub some : s .marked ≤ 16777216
-  pub still : walks ≡ false → s .sealed ≡ 0
-  pub keeps : (m : List ℕ) (n : ℕ) → Map r m → Standing r m c before n → Standing r m c after (n + s .sealed)
+  pub each : Roots r c before → (x : Cell) → InGrid r x → at r after x ≡ cond (which (at r before x)) 6 (at r before x)
 
--- the mark d becomes 6
-pub record Restores (r : Axes) (c : Cell) (d : ℕ) (before after : List ℕ) : Type 0 where
-  pub size : length after ≡ length before
-  pub each : Roots r c before → (x : Cell) → InGrid r x → at r after x ≡ cond (eqb (at r before x) d) 6 (at r before x)
+-- one of them, and those below t
+abbrev pub isMark : ℕ → ℕ → Bool
+isMark d v = eqb v d
 
--- the marks below t become 6
-pub record RestoresBelow (t : ℕ) (r : Axes) (c : Cell) (before after : List ℕ) : Type 0 where
-  pub size : length after ≡ length before
-  pub each : Roots r c before → (x : Cell) → InGrid r x → at r after x ≡ cond (ltb (at r before x) t) 6 (at r before x)
+abbrev pub isBelow : ℕ → ℕ → Bool
+isBelow t v = ltb v t

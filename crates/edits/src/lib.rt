@@ -1,13 +1,13 @@
 // Opening and closing a cell of a map: which labels change, and how many.
 ghost use mathlib.Core.Path.{_≡_};
 ghost use mathlib.Core.Bool.{true, false};
-ghost use Prim.Native.Nat.{_<_, _≤_};
+ghost use Prim.Native.Nat.{_+_, _<_, _≤_};
 ghost use Rattle.grid.specs.Answers.{Ends, _andThen_};
 ghost use Rattle.grid.specs.Checks.{mapFault};
 ghost use Rattle.grid.specs.Flood.{Flooded};
 ghost use Rattle.grid.specs.Grid.{num, InGrid, at, Sheet};
 ghost use Rattle.edits.specs.Edits.{opening, closing, outcome, mapLabels, inGrid, wrongKind, cellFault, editFault, MeetsAir, Edited};
-ghost use Rattle.edits.specs.Closing.{Map, Turns, Seals, Settles, SettlesBelow, Restores, RestoresBelow};
+ghost use Rattle.edits.specs.Closing.{Map, Turns, Seals, Settles, Restores, isMark, isBelow};
 use grid::Axes;
 use grid::Cell;
 use grid::Checked;
@@ -110,7 +110,7 @@ fn settle(l: &mut [u8], r: Axes, c: Cell, n: usize, d: u8, walks: bool) -> Settl
     requires { ⌜ Sheet r (now l) ⌝ }
     requires { ⌜ InGrid r c × (n ≡ num r c) ⌝ }
     requires { ⌜ d < 6 ⌝ }
-    ensures { λ s. ⌜ Settles r c d walks (now (l .entry)) (now (l .exit)) s ⌝ }
+    ensures { λ s. ⌜ Settles d (d + 1) r c walks (now (l .entry)) (now (l .exit)) s ⌝ }
 {
     let none = Settled {
         sealed: 0,
@@ -138,7 +138,7 @@ fn settle(l: &mut [u8], r: Axes, c: Cell, n: usize, d: u8, walks: bool) -> Settl
 fn settle_all(l: &mut [u8], r: Axes, c: Cell, n: usize, walks: bool) -> Settled
     requires { ⌜ Sheet r (now l) ⌝ }
     requires { ⌜ InGrid r c × (n ≡ num r c) ⌝ }
-    ensures { λ s. ⌜ SettlesBelow 6 r c walks (now (l .entry)) (now (l .exit)) s ⌝ }
+    ensures { λ s. ⌜ Settles 0 6 r c walks (now (l .entry)) (now (l .exit)) s ⌝ }
 {
     let mut sealed = 0usize;
     let mut marked = 0usize;
@@ -156,7 +156,7 @@ fn restore(l: &mut [u8], r: Axes, c: Cell, n: usize, d: u8, marked: usize)
     requires { ⌜ Sheet r (now l) ⌝ }
     requires { ⌜ InGrid r c × (n ≡ num r c) ⌝ }
     requires { ⌜ d < 6 ⌝ }
-    ensures { λ _. ⌜ Restores r c d (now (l .entry)) (now (l .exit)) ⌝ }
+    ensures { λ _. ⌜ Restores (isMark d) r c (now (l .entry)) (now (l .exit)) ⌝ }
 {
     let a = reach::look(l, r, c, n, d);
     if a.label == d {
@@ -169,7 +169,7 @@ fn restore(l: &mut [u8], r: Axes, c: Cell, n: usize, d: u8, marked: usize)
 fn restore_all(l: &mut [u8], r: Axes, c: Cell, n: usize, marked: usize)
     requires { ⌜ Sheet r (now l) ⌝ }
     requires { ⌜ InGrid r c × (n ≡ num r c) ⌝ }
-    ensures { λ _. ⌜ RestoresBelow 6 r c (now (l .entry)) (now (l .exit)) ⌝ }
+    ensures { λ _. ⌜ Restores (isBelow 6) r c (now (l .entry)) (now (l .exit)) ⌝ }
 {
     let len = l.len();
     if len / 128 < marked {

@@ -1,4 +1,4 @@
-//! Shapes that the stored cases of fills and of edits share; nothing of the crate.
+//! Shapes and random numbers that the stored cases of fills and of edits share; nothing of the crate.
 
 /// i, j and k.
 pub type Cell = [u32; 3];
@@ -35,4 +35,17 @@ pub fn spiral(side: i32) -> Vec<Cell> {
         }
     }
     path.iter().map(|p| [p[0] as u32, p[1] as u32, 1]).collect()
+}
+
+/// Random numbers: xorshift from a fixed seed.
+pub struct Random(pub u64);
+
+impl Random {
+    /// A number below n.
+    pub fn below(&mut self, n: u64) -> u32 {
+        self.0 ^= self.0 << 13;
+        self.0 ^= self.0 >> 7;
+        self.0 ^= self.0 << 17;
+        ((self.0 >> 11) % n) as u32
+    }
 }

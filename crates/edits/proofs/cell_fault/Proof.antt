@@ -23,10 +23,10 @@ in-grid-requires : tie.Need-in-grid-requires
 in-grid-requires c κs = search needs
 
 number-requires : tie.Need-number-requires
-number-requires c κs = (in-grid _ _ (sym (c .before .in-grid .ensures) ∙ c .if1 .taken), c .before .before .before .pre .sound)
+number-requires c κs = (in-grid _ _ .0 (sym (c .before .in-grid .ensures) ∙ c .if1 .taken), c .before .before .before .pre .sound)
 
 shared-slice-read-wrong-kind : tie.Need-shared-slice-read-wrong-kind
-shared-slice-read-wrong-kind c = omega (arith, c .before .number .ensures, num-lt (c .before .before .before .before .before .args .r) (c .before .before .before .before .before .args .c) (in-grid _ _ (sym (c .before .before .before .in-grid .ensures) ∙ c .before .before .if1 .taken)), c .before .before .before .before .before .pre .size)
+shared-slice-read-wrong-kind c = omega (arith, c .before .number .ensures, num-lt (c .before .before .before .before .before .args .r) (c .before .before .before .before .before .args .c) (in-grid _ _ .0 (sym (c .before .before .before .in-grid .ensures) ∙ c .before .before .if1 .taken)), c .before .before .before .before .before .pre .size)
 
 wrong-kind-requires : tie.Need-wrong-kind-requires
 wrong-kind-requires c κs = search needs

@@ -20,7 +20,7 @@ enum-told : tie.Need-enum-told
 enum-told c = search needs
 
 close-open-requires : tie.Need-close-open-requires
-close-open-requires c κs = let a = c .before .before .before .before .before .before .args in let e = sym (c .before .before .before .edit-fault .ensures) ∙ c .before .enum-told .given .1 in (let s = edit-sound (a .r) (a .labels .now) (a .c) false e in ((s .sheet, s .map), (s .within, no-surface _ (s .kind))))
+close-open-requires c κs = let a = c .before .before .before .before .before .before .args in let e = sym (c .before .before .before .edit-fault .ensures) ∙ c .before .enum-told .given .1 in (let s = edit-sound (a .r) (a .labels .now) (a .c) false e in ((s .sheet, s .map), (s .within, no-surface _ .0 (s .kind))))
 
 same-length : tie.Need-same-length
 same-length c = search needs

@@ -3,14 +3,14 @@ use mathlib.Core.Path.{refl, subst}
 use Prim.Native.Nat.{ℕ, _-_, _≤_}
 use native.Mathlib.Omega.{arith}
 use Rattle.grid.proofs.Cells.{sheet-kept}
-use Rattle.edits.specs.Closing.{RestoresBelow}
+use Rattle.edits.specs.Closing.{Restores, isBelow}
 use Rattle.edits.proofs.Settlings.{all-ways}
 use Rattle.edits.proofs.Closings.{restores-none, restores-more, restores-swept}
 use Rattle.edits.proofs.restore_all.Statement.{statement}
 use Rattle.edits.proofs.restore_all.Tie as tie
 
 abbrev Inv-loop : tie.InvT-loop
-Inv-loop l₀ r c n marked len d₀ l d = (d ≤ 6) × RestoresBelow d r c l₀ l
+Inv-loop l₀ r c n marked len d₀ l d = (d ≤ 6) × Restores (isBelow d) r c l₀ l
 
 abbrev μ-loop : tie.MeasureT-loop
 μ-loop l₀ r c n marked len d₀ l d = 6 - d
@@ -43,7 +43,7 @@ same-length-2 : tie.Need-same-length-2 Inv-loop μ-loop
 same-length-2 c = c .before .loop .inv .1 .size
 
 returns-2 : tie.Need-returns-2 Inv-loop μ-loop
-returns-2 c = let a = c .before .before .before .before .args in let o = c .before .loop in subst (λ (t : ℕ). RestoresBelow t (a .r) (a .c) (a .l .now) (o .l)) (all-ways (o .d) (o .inv .0) (c .loop-test .left)) (o .inv .1)
+returns-2 c = let a = c .before .before .before .before .args in let o = c .before .loop in subst (λ (t : ℕ). Restores (isBelow t) (a .r) (a .c) (a .l .now) (o .l)) (all-ways (o .d) (o .inv .0) (c .loop-test .left)) (o .inv .1)
 
 pub restore-all-spec : {M : Type 1} → statement M
 restore-all-spec =

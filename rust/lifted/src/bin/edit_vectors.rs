@@ -33,7 +33,7 @@
 //! are a fill without cavities, those after it are compared with a fresh flood of the surface cells. The cases chosen
 //! by hand come first; random ones, from a fixed seed, follow. How many there are of each family is printed.
 
-use lifted::shapes::{serpentine, spiral, Cell};
+use lifted::shapes::{serpentine, spiral, Cell, Random};
 use std::collections::{HashSet, VecDeque};
 use std::time::Instant;
 
@@ -854,18 +854,6 @@ fn cells_refused(out: &mut Vec<Case>) {
 }
 
 // ---- random cases
-
-/// Random numbers: xorshift from a fixed seed.
-struct Random(u64);
-
-impl Random {
-    fn below(&mut self, n: u64) -> u32 {
-        self.0 ^= self.0 << 13;
-        self.0 ^= self.0 >> 7;
-        self.0 ^= self.0 << 17;
-        ((self.0 >> 11) % n) as u32
-    }
-}
 
 /// Large grids, fills and any labels, at densities where what is open only just hangs together and about them.
 fn large(out: &mut Vec<Case>, rng: &mut Random) {

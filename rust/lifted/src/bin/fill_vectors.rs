@@ -22,7 +22,7 @@
 //! are of each family is printed.
 
 use lifted::fill::{FillMode, VoxelizedVolume};
-use lifted::shapes::{serpentine, spiral, Cell};
+use lifted::shapes::{serpentine, spiral, Cell, Random};
 use std::time::{Duration, Instant};
 
 const LIMIT: usize = 65536;
@@ -509,18 +509,6 @@ fn labels_refused(out: &mut Vec<Case>) {
         out.extend([bad.clone(), put(&[])].map(|c| Case { axes, ..c }));
     }
     out.extend([raw([2, 3, 2], &[GOOD, [7; 12]].concat()), raw([2, 3, 2], &[7; 11])]);
-}
-
-/// Random numbers: xorshift from a fixed seed.
-struct Random(u64);
-
-impl Random {
-    fn below(&mut self, n: u64) -> u32 {
-        self.0 ^= self.0 << 13;
-        self.0 ^= self.0 >> 7;
-        self.0 ^= self.0 << 17;
-        ((self.0 >> 11) % n) as u32
-    }
 }
 
 /// Large grids, at densities where what is open only just hangs together and about them.
