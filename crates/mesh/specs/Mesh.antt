@@ -1,11 +1,12 @@
 -- 01, Sizing and placement and Marking: a vertex on the grid, a triangle, its candidates. Points are f32 triples, triangles u32 triples, one number after the other. Definitions only.
-use mathlib.Core.Bool.{Bool, _&&_}
+use mathlib.Core.Bool.{Bool, cond, _&&_}
 use mathlib.Core.List.{List, [], _∷_}
 use Prim.Native.Nat.{ℕ, _+_, _*_, _/_}
+use lib.Dec.{eqb}
 use lib.IntN.{ℤ, pos, negℤ, _+ℤ_, _-ℤ_}
 use lib.Signed.{ltZ, leZ}
 use lib.ListN.{length, getD}
-use lib.Ieee.{Float, binary32, sub, mul}
+use lib.Ieee.{Float, binary32, add, sub, mul}
 use Rattle.grid.specs.declared.Axes.{Axes}
 use Rattle.grid.specs.declared.Cell.{Cell}
 use Rattle.grid.specs.declared.Placement.{Placement}
@@ -13,7 +14,7 @@ use Rattle.ints.specs.Order.{lesser, greater}
 use Rattle.numbers.specs.declared.Whole.{Whole}
 use Rattle.numbers.specs.declared.Whole.the-variants.{Of, TooLarge, NotANumber}
 use Rattle.numbers.specs.Rounding.{parts, nearestOf, cellOf}
-use Rattle.sizing.specs.Sizing.{coord}
+use Rattle.sizing.specs.Sizing.{coord, countOf}
 use Rattle.touch.specs.Touch.{along, vertex}
 
 -- ---- a vertex on the grid
@@ -43,6 +44,16 @@ onAxis n q = leZ (pos 0) (cellOf q) && ltZ (cellOf q) (pos n)
 -- a vertex falls on a cell of the grid
 abbrev pub onGrid : Axes → List ℤ → Bool
 onGrid r v = onAxis (r .r0) (along v 0) && onAxis (r .r1) (along v 1) && onAxis (r .r2) (along v 2)
+
+-- ---- places on the grid
+
+-- the origin along axis 0, 1 or 2
+abbrev pub originAlong : Placement → ℕ → Float
+originAlong at axis = cond (eqb axis 0) (at .x) (cond (eqb axis 1) (at .y) (at .z))
+
+-- 01, Planes: "origin + (i + 0.5) * scale", and V's corners of a box: `shift` cells off the centre of cell i; "each f32 operation rounded once, in the order given"
+abbrev pub offCentre : Float → Float → ℕ → Float → Float
+offCentre origin scale i shift = add binary32 origin (mul binary32 (add binary32 (countOf i) shift) scale)
 
 -- ---- a triangle
 

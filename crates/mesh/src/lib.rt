@@ -11,7 +11,7 @@ ghost use Rattle.grid.specs.First.{firstNot};
 ghost use Rattle.grid.specs.Grid.{Axis, Sound};
 ghost use Rattle.numbers.specs.Rounding.{cellOf};
 ghost use Rattle.sizing.specs.Sizing.{points};
-ghost use Rattle.mesh.specs.Mesh.{wholeParts, partsAt, vertexOf, onAxis, onGrid, triangles, triangleOf, firstOf, pastOf};
+ghost use Rattle.mesh.specs.Mesh.{wholeParts, partsAt, vertexOf, onAxis, onGrid, triangles, triangleOf, firstOf, pastOf, originAlong, offCentre};
 ghost use Rattle.mesh.specs.Faults.{originFault, names, missingFault, lentFault, offFault, lengthsFault, lentNumbersFault, inputFault, meshFault};
 ghost use Rattle.mesh.specs.Ranges.{Named, OnCells, Held, EndsOf, BlockOf};
 use grid::Axes;
@@ -82,9 +82,33 @@ fn on_grid(v: [i64; 3], r: Axes) -> bool
     x & y & z
 }
 
+// ---- places on the grid
+
+// The origin along axis 0, 1 or 2.
+pub fn origin_along(at: Placement, axis: usize) -> f32
+    ensures { λ x. ⌜ x ≡ originAlong at axis ⌝ }
+{
+    if axis == 0 {
+        return at.x;
+    }
+    if axis == 1 {
+        return at.y;
+    }
+    at.z
+}
+
+// Along an axis, the place that lies `shift` cells off the centre of cell i.
+pub fn off_centre(origin: f32, scale: f32, i: usize, shift: f32) -> f32
+    requires { ⌜ i < 256 ⌝ }
+    ensures { λ x. ⌜ x ≡ offCentre origin scale i shift ⌝ }
+{
+    origin + ((i as u16) as f32 + shift) * scale
+}
+
 // ---- the refusals
 
-fn origin_fault(at: Placement) -> Checked
+// Refusal 3 of a lent origin, whose numbers come first.
+pub fn origin_fault(at: Placement) -> Checked
     ensures { λ f. ⌜ f ≡ originFault at ⌝ }
 {
     let origin = [at.x, at.y, at.z];
@@ -101,8 +125,8 @@ fn corner_fault(number: u8, k: usize, len: usize) -> Checked
     Checked::Fine
 }
 
-// The place of the first corner that names no point of n, or the length.
-fn first_missing(ts: &[u32], n: usize) -> usize
+// The place of the first of some numbers that names none of n things, or the length.
+pub fn first_missing(ts: &[u32], n: usize) -> usize
     ensures { λ k. ⌜ k ≡ firstNot (names n) (now (ts .entry)) ⌝ }
 {
     let mut k = 0usize;

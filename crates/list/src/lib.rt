@@ -1,0 +1,93 @@
+// The cell list without pairs: a record for each cell 7 and 8, in list order.
+ghost use mathlib.Core.Path.{_≡_};
+ghost use Prim.Native.Nat.{_+_, _*_, _≤_};
+ghost use lib.ListN.{length};
+ghost use Rattle.grid.specs.Grid.{Sheet};
+ghost use Rattle.order.specs.Output.{Written};
+ghost use Rattle.listed.specs.Listed.{width};
+ghost use Rattle.list.specs.List.{isListed, flagOf, listed, plainRecords, outcome, cellsAnswer, cellsBuffer};
+use grid::Axes;
+use grid::Cell;
+use grid::Checked;
+use grid::Refusal;
+use listed::Listed;
+
+// How many cells are listed, and how many pairs of a cell and a triangle.
+pub struct Counts {
+    pub cells: usize,
+    pub pairs: usize,
+}
+
+// What a list answers; the list is in the outputs.
+pub enum Listing {
+    Listed(Counts),
+    Refused(Refusal),
+}
+
+// How many cells are listed: counted in memory order.
+pub fn count_cells(labels: &[u8], r: Axes) -> usize
+    requires { ⌜ Sheet r (now labels) ⌝ }
+    ensures { λ n. ⌜ (n ≡ length (listed r (now (labels .entry)))) × (n ≤ 16777216) ⌝ }
+{
+    grid::count_label(labels, 7) + grid::count_label(labels, 8)
+}
+
+fn is_listed(label: u8) -> bool
+    ensures { λ b. ⌜ b ≡ isListed label ⌝ }
+{
+    (label == 7) | (label == 8)
+}
+
+fn flag_of(label: u8) -> u32
+    ensures { λ f. ⌜ f ≡ flagOf label ⌝ }
+{
+    if label == 8 { 1 } else { 0 }
+}
+
+// The records of all listed cells, each with the range 0..0.
+pub fn write_records(labels: &[u8], r: Axes, records: &mut [u32])
+    requires { ⌜ Sheet r (now labels) ⌝ }
+    requires { ⌜ length (listed r (now labels)) * width ≤ length (now records) ⌝ }
+    ensures { λ _. ⌜ Written 0 0 (plainRecords r (now (labels .entry))) (now (records .entry)) (now (records .exit)) ⌝ }
+{
+    let mut p = 0usize;
+    let mut next = Cell { i: 0, j: 0, k: 0 };
+    while next.i < r.r0 {
+        let c = next;
+        next = order::following(r, c);
+        let label = labels[grid::number(r, c)];
+        if is_listed(label) {
+            listed::write(
+                records,
+                p,
+                Listed {
+                    cell: c,
+                    surface: flag_of(label),
+                    start: 0,
+                    end: 0,
+                },
+            );
+            p += 1;
+        }
+    }
+}
+
+// Lists the cells 7 and 8 of a map, or refuses and writes nothing.
+pub fn list_cells(labels: &[u8], r: Axes, records: &mut [u32]) -> Listing
+    ensures { λ a. ⌜ outcome a ≡ cellsAnswer (now (labels .entry)) r (now (records .entry)) ⌝ }
+    ensures { λ _. ⌜ now (records .exit) ≡ cellsBuffer (now (labels .entry)) r (now (records .entry)) ⌝ }
+{
+    match grid::map_fault(labels, r, order::known_labels()) {
+        Checked::Fault(f) => Listing::Refused(f),
+        Checked::Fine => {
+            let cells = count_cells(labels, r);
+            match order::room_fault(records.len(), (cells * listed::WIDTH) as u64) {
+                Checked::Fault(f) => Listing::Refused(f),
+                Checked::Fine => {
+                    write_records(labels, r, records);
+                    Listing::Listed(Counts { cells, pairs: 0 })
+                }
+            }
+        }
+    }
+}

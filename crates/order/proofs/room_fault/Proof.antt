@@ -1,0 +1,24 @@
+-- `order::room_fault` meets its contract. Assumes nothing.
+use borrow.Author.Needs.{needs}
+use Rattle.order.proofs.room_fault.Statement.{statement}
+use Rattle.order.proofs.room_fault.Tie as tie
+use Rattle.order.proofs.room_fault.Reads as reads
+use Rattle.order.proofs.room_fault.Lts as lts
+use Rattle.grid.proofs.fault.Reads as fault-reads
+use mathlib.Core.Bool.{Bool}
+use mathlib.Core.Path.{sym, ap, _∙_}
+use borrow.Author.Tests.{lt-ltb, le-ltb}
+use Rattle.grid.specs.declared.Checked.the-variants.{Fine}
+use Rattle.grid.specs.Answers.{faultIf}
+
+fault-requires : tie.Need-fault-requires
+fault-requires c κs = search needs
+
+returns : tie.Need-returns
+returns c = c .fault .ensures ∙ sym (ap (λ (b : Bool). faultIf b 14 0 Fine) (lt-ltb _ _ (c .before .if1 .taken)))
+
+returns-2 : tie.Need-returns-2
+returns-2 c = sym (ap (λ (b : Bool). faultIf b 14 0 Fine) (le-ltb _ _ (c .if1 .left)))
+
+pub room-fault-spec : {M : Type 1} → statement M
+room-fault-spec = tie.close (tie.spec fault-requires returns returns-2)
