@@ -2,11 +2,11 @@
 use mathlib.Core.Bool.{Bool, true, false}
 use mathlib.Core.Path.{_≡_, refl, sym, ap, subst, _∙_}
 use mathlib.Core.List.{List, [], _∷_, _++_, append-assoc, append-nil}
-use Prim.Native.Nat.{ℕ, _+_, _*_, _≤_, _<_}
+use Prim.Native.Nat.{ℕ, zero, suc, _+_, _*_, _≤_, _<_}
 use native.Mathlib.Nat.{suc-mul}
 use native.Mathlib.Omega.{arith}
 use lib.Dec.{eqb}
-use lib.ListN.{length, length-append}
+use lib.ListN.{length, getD, take, length-append}
 use borrow.Author.Tests.{eqb-true, ne-eqb}
 use Rattle.grid.specs.declared.Axes.{Axes}
 use Rattle.grid.specs.declared.Cell.{Cell}
@@ -16,11 +16,11 @@ use Rattle.grid.proofs.Cells.{cells-max}
 use Rattle.order.specs.Order.{joinAll, Stands, nextCell}
 use Rattle.order.specs.Output.{Written}
 use Rattle.order.proofs.Orders.{by-bool, Passing, passing-first, passing-done, passing-fits, passing-no, passing-yes, passing-room}
-use Rattle.order.proofs.Outputs.{written-none, written-then}
+use Rattle.order.proofs.Outputs.{append-left, written-none, written-then}
 use Rattle.order.proofs.Sums.{kept-count}
 use Rattle.listed.specs.declared.Listed.{Listed}
-use Rattle.listed.specs.Listed.{width, numbersOf}
-use Rattle.listed.proofs.Records.{numbers-length}
+use Rattle.listed.specs.Listed.{width, numbersOf, recordAt}
+use Rattle.listed.proofs.Records.{numbers-length, numbers-read, record-behind}
 use Rattle.list.specs.List.{isListed, flagOf, listed, recordsFrom, plainRecords}
 
 module _ (r : Axes) (l : List ℕ) (f : Cell → List ℕ) where
@@ -50,11 +50,31 @@ module _ (r : Axes) (l : List ℕ) (f : Cell → List ℕ) where
   unfolding recordsFrom
   rows-more s xs c = rows-append s xs (c ∷ []) ∙ ap (λ (t : List ℕ). recordsFrom r l f s xs ++ t) (append-nil (numbersOf (rowAt (s + length (joinAll f xs)) c)))
 
+  -- record p: its cell's, at the place that the cells before it come to
+  pub row-read : (d : Cell) (s : ℕ) (cs : List Cell) (p : ℕ) → p < length cs → recordAt (recordsFrom r l f s cs) p ≡ rowAt (s + length (joinAll f (take p cs))) (getD cs p d)
+  unfolding recordsFrom joinAll
+  row-read d s [] p h = absurd (none p h)
+    where
+      none : (p : ℕ) → p < 0 → ⊥
+      none p h = omega arith
+  row-read d s (c ∷ cs) zero h =
+      numbers-read (numbersOf (rowAt s c) ++ recordsFrom r l f (s + length (f c)) cs) 0 (rowAt s c) first
+      ∙ ap (λ (k : ℕ). rowAt k c) (let e : s ≡ s + 0 = omega arith in e)
+    where
+      first : (x : ℕ) → x < width → getD (numbersOf (rowAt s c) ++ recordsFrom r l f (s + length (f c)) cs) (0 * width + x) 0 ≡ getD (numbersOf (rowAt s c)) x 0
+      first x w =
+          ap (λ (k : ℕ). getD (numbersOf (rowAt s c) ++ recordsFrom r l f (s + length (f c)) cs) k 0) (let e : 0 * width + x ≡ x = omega arith in e)
+          ∙ append-left 0 (numbersOf (rowAt s c)) (recordsFrom r l f (s + length (f c)) cs) x (let e = numbers-length (rowAt s c) in omega arith)
+  row-read d s (c ∷ cs) (suc p) h =
+      record-behind (numbersOf (rowAt s c)) (recordsFrom r l f (s + length (f c)) cs) p (numbers-length (rowAt s c))
+      ∙ row-read d (s + length (f c)) cs p (omega arith)
+      ∙ ap (λ (k : ℕ). rowAt k (getD cs p d)) (let e : s + length (f c) + length (joinAll f (take p cs)) ≡ s + length (f c ++ joinAll f (take p cs)) = omega (arith, length-append (f c) (joinAll f (take p cs))) in e)
+
 -- where no cell has triangles
-abbrev none : Cell → List ℕ
+abbrev pub none : Cell → List ℕ
 none c = []
 
-none-joined : (cs : List Cell) → length (joinAll none cs) ≡ 0
+pub none-joined : (cs : List Cell) → length (joinAll none cs) ≡ 0
 unfolding joinAll
 none-joined [] = refl
 none-joined (c ∷ cs) = none-joined cs

@@ -2,19 +2,20 @@
 use mathlib.Core.Bool.{Bool, true, false, cond, _||_}
 use mathlib.Core.Logic.{_⊎_, inl, inr}
 use mathlib.Core.Path.{_≡_, refl, sym, ap, _∙_}
-use mathlib.Core.List.{List, []}
-use Prim.Native.Nat.{ℕ, zero, suc, _+_, _*_, _-_, _≤_, _<_}
+use mathlib.Core.List.{List, [], _++_}
+use Prim.Native.Nat.{ℕ, zero, suc, _+_, _*_, _-_, _/_, _%_, _≤_, _<_}
+use native.Mathlib.Nat.{div-add-mod, mod-lt}
 use native.Mathlib.Omega.{arith}
 use lib.Dec.{ltb}
 use lib.ListN.{length, getD, set, take, drop, length-set, length-drop}
-use lib.Seq.{getD-set-same, getD-set-other, length-take-le, getD-take, getD-drop}
+use lib.Seq.{getD-set-same, getD-set-other, length-take-le, getD-take, getD-drop, getD-append-add}
 use borrow.Author.Tests.{lt-ltb, le-ltb, ltb-false}
 use Rattle.grid.specs.declared.Checked.the-variants.{Fine}
 use Rattle.grid.specs.Answers.{faultAt, faultIf}
 use Rattle.grid.proofs.Cells.{cell-path}
 use Rattle.grid.proofs.Checks.{passed, or-false}
-use Rattle.order.specs.Output.{Written}
-use Rattle.order.proofs.Outputs.{written-one, written-more}
+use Rattle.order.specs.Output.{over, Written}
+use Rattle.order.proofs.Outputs.{written-one, written-more, written-over}
 use Rattle.listed.specs.declared.Listed.{Listed}
 use Rattle.listed.specs.Listed.{width, numbersOf, recordAt, ranged, Put, badRange, rangeFault, partOf}
 
@@ -77,6 +78,36 @@ written-record at e o h =
     (written-more 0 at (e .surface) _ o _
     (written-more 0 at (e .cell .k) _ o _
     (written-more 0 at (e .cell .j) _ o _ (written-one 0 at (e .cell .i) o (omega arith)) (omega arith)) (omega arith)) (omega arith)) (omega arith)) (omega arith)
+
+-- a record behind another
+pub record-behind : (xs ys : List ℕ) (p : ℕ) → length xs ≡ width → recordAt (xs ++ ys) (suc p) ≡ recordAt ys p
+record-behind xs ys p h =
+    record-same (xs ++ ys) ys (suc p) p
+    (λ d l. ap (λ (k : ℕ). getD (xs ++ ys) k 0) (let e : suc p * width + d ≡ length xs + (p * width + d) = omega arith in e) ∙ getD-append-add xs ys (p * width + d) 0)
+
+-- n records that stand in a buffer, which is as it was behind them
+pub records-over : (xs o m : List ℕ) (n : ℕ) → length xs ≡ n * width → n * width ≤ length o → length m ≡ length o → ((p : ℕ) → p < n → recordAt m p ≡ recordAt xs p)
+    → ((x : ℕ) → n * width ≤ x → getD m x 0 ≡ getD o x 0) → m ≡ over xs o
+records-over xs o m n e room size rows past =
+    written-over 0 xs o m (omega arith) (record { size = size; there = λ k l. front k (omega arith); others = λ k l. past k (behind k l) })
+  where
+    behind : (k : ℕ) → (k < 0) ⊎ (0 + length xs ≤ k) → n * width ≤ k
+    behind k (inl l) = absurd (none k l)
+      where
+        none : (k : ℕ) → k < 0 → ⊥
+        none k l = omega arith
+    behind k (inr l) = omega arith
+
+    front : (k : ℕ) → k < n * width → getD m (0 + k) 0 ≡ getD xs k 0
+    front k l =
+        let q = div-add-mod k width in
+        let w = mod-lt k {m = width} (omega arith) in
+        let at : k ≡ k / width * width + k % width = omega arith in
+        let in-n : k / width < n = omega arith in
+        ap (λ (x : ℕ). getD m x 0) (let z : 0 + k ≡ k / width * width + k % width = omega arith in z)
+        ∙ read-numbers m (k / width) (recordAt xs (k / width)) (rows (k / width) in-n) (k % width) w
+        ∙ sym (read-numbers xs (k / width) (recordAt xs (k / width)) refl (k % width) w)
+        ∙ sym (ap (λ (x : ℕ). getD xs x 0) at)
 
 -- another range
 module _ (o : List ℕ) (p start end : ℕ) (room : p * width + width ≤ length o) where

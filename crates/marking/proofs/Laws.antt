@@ -16,7 +16,7 @@ use Rattle.grid.specs.declared.Cell.{Cell}
 use Rattle.grid.specs.declared.Placement.{Placement}
 use Rattle.grid.specs.declared.Checked.{Checked}
 use Rattle.grid.specs.declared.Checked.the-variants.{Fine, Fault}
-use Rattle.grid.specs.Answers.{Outcome, answers, refuses, Finds, Gives, unless, lentAfter}
+use Rattle.grid.specs.Answers.{Outcome, answers, refuses, isOneOf, Finds, Gives, unless, lentAfter}
 use Rattle.grid.specs.Grid.{Sound, InGrid, cells, num, at}
 use Rattle.grid.proofs.First.{some-below}
 use Rattle.grid.proofs.Cells.{num-lt, labels-length, labels-one, labels-at}
@@ -58,28 +58,31 @@ painted-marked ps ts r p n m e w =
 
 -- ---- which numbers mark gives: 1, 2, 3, 4, 5, 8, 9 and 10
 
-pub mark-numbers : (ps : List Float) (ts : List ℕ) (r : Axes) (at : Placement) (l : List ℕ) → Gives (1 ∷ 2 ∷ 3 ∷ 4 ∷ 5 ∷ 8 ∷ 9 ∷ 10 ∷ []) (markAnswer ps ts r at l)
-mark-numbers ps ts r at l = gives-unless ns (meshFault ps ts r at (length l)) (answers tt) all (λ f. tt)
+-- what the checks of a mesh find, in any list that has these numbers
+pub mesh-finds : (ns : List ℕ) (ps : List Float) (ts : List ℕ) (r : Axes) (at : Placement) (len : ℕ)
+    → T (isOneOf 1 ns) → T (isOneOf 2 ns) → T (isOneOf 3 ns) → T (isOneOf 4 ns) → T (isOneOf 5 ns) → T (isOneOf 8 ns) → T (isOneOf 9 ns) → T (isOneOf 10 ns)
+    → Finds ns (meshFault ps ts r at len)
+mesh-finds ns ps ts r at len h1 h2 h3 h4 h5 h8 h9 h10 =
+    finds-then ns (inputFault ps ts r at len) _ input (finds-first ns 10 (λ k. k / 3) (λ v. onGrid r (vertexOf ps at v)) ts h10)
   where
-    ns : List ℕ
-    ns = 1 ∷ 2 ∷ 3 ∷ 4 ∷ 5 ∷ 8 ∷ 9 ∷ 10 ∷ []
-
     lengths : (n : ℕ) → Finds ns (lengthFault n)
-    lengths n = finds-if ns (not (eqb (n % 3) 0) || ltb 65536 (n / 3)) 1 0 Fine tt tt
+    lengths n = finds-if ns (not (eqb (n % 3) 0) || ltb 65536 (n / 3)) 1 0 Fine h1 tt
 
-    input : Finds ns (inputFault ps ts r at (length l))
+    input : Finds ns (inputFault ps ts r at len)
     input =
         finds-then ns (lengthsFault ps ts) _
-        (finds-then ns (lengthFault (length ps)) _ (lengths (length ps)) (finds-then ns (lengthFault (length ts)) _ (lengths (length ts)) (finds-if ns (eqb (length ps) 0) 2 0 Fine tt tt)))
+        (finds-then ns (lengthFault (length ps)) _ (lengths (length ps)) (finds-then ns (lengthFault (length ts)) _ (lengths (length ts)) (finds-if ns (eqb (length ps) 0) 2 0 Fine h2 tt)))
         (finds-then ns (lentNumbersFault ps at) _
-        (finds-then ns (originFault at) _ (finds-first ns 3 (λ n. 0 + n) (bounded 20) (at .x ∷ at .y ∷ at .z ∷ []) tt) (finds-first ns 3 (λ n. 3 + n) (bounded 20) ps tt))
-        (finds-then ns (missingFault (points ps) ts) _ (finds-first ns 4 (λ k. k / 3) (names (points ps)) ts tt)
+        (finds-then ns (originFault at) _ (finds-first ns 3 (λ n. 0 + n) (bounded 20) (at .x ∷ at .y ∷ at .z ∷ []) h3) (finds-first ns 3 (λ n. 3 + n) (bounded 20) ps h3))
+        (finds-then ns (missingFault (points ps) ts) _ (finds-first ns 4 (λ k. k / 3) (names (points ps)) ts h4)
         (finds-then ns (lentFault at) _
-        (finds-if ns (not (le leastScale (at .scale) && le (at .scale) greatestScale && eq (at .reciprocal) (div binary32 (fin false 1 (pos 0)) (at .scale)))) 5 0 Fine tt tt)
-        (finds-grid ns r (length l) tt tt))))
+        (finds-if ns (not (le leastScale (at .scale) && le (at .scale) greatestScale && eq (at .reciprocal) (div binary32 (fin false 1 (pos 0)) (at .scale)))) 5 0 Fine h5 tt)
+        (finds-grid ns r len h8 h9))))
 
-    all : Finds ns (meshFault ps ts r at (length l))
-    all = finds-then ns (inputFault ps ts r at (length l)) _ input (finds-first ns 10 (λ k. k / 3) (λ v. onGrid r (vertexOf ps at v)) ts tt)
+pub mark-numbers : (ps : List Float) (ts : List ℕ) (r : Axes) (at : Placement) (l : List ℕ) → Gives (1 ∷ 2 ∷ 3 ∷ 4 ∷ 5 ∷ 8 ∷ 9 ∷ 10 ∷ []) (markAnswer ps ts r at l)
+mark-numbers ps ts r at l =
+    gives-unless (1 ∷ 2 ∷ 3 ∷ 4 ∷ 5 ∷ 8 ∷ 9 ∷ 10 ∷ []) (meshFault ps ts r at (length l)) (answers tt)
+    (mesh-finds (1 ∷ 2 ∷ 3 ∷ 4 ∷ 5 ∷ 8 ∷ 9 ∷ 10 ∷ []) ps ts r at (length l) tt tt tt tt tt tt tt tt) (λ f. tt)
 
 -- ---- two results that fit the promise are one
 

@@ -211,11 +211,11 @@ one-is n x h =
 one-here : (n : ℕ) → between (one n) n ≡ true
 one-here n = rw (le-leb n n (omega arith), lt-ltb n (n + 1) (omega arith))
 
-holds-here : (i j k : ℕ) → holds (rowOf (one i) j k) (record { i = i; j = j; k = k }) ≡ true
+pub holds-here : (i j k : ℕ) → holds (rowOf (one i) j k) (record { i = i; j = j; k = k }) ≡ true
 unfolding holds
 holds-here i j k = rw (one-here i, one-here j, one-here k)
 
-holds-is : (i j k : ℕ) (c : Cell) → holds (rowOf (one i) j k) c ≡ true → c ≡ record { i = i; j = j; k = k }
+pub holds-is : (i j k : ℕ) (c : Cell) → holds (rowOf (one i) j k) c ≡ true → c ≡ record { i = i; j = j; k = k }
 unfolding holds
 holds-is i j k c h =
     let x = between (one i) (c .i) in

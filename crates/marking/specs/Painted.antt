@@ -1,5 +1,5 @@
 -- What the loops of `marking` say to each other: cells of some set become 8, and the others stay. Definitions only.
-use mathlib.Core.Bool.{Bool, cond, _&&_}
+use mathlib.Core.Bool.{Bool, true, cond, _&&_}
 use mathlib.Core.Path.{_≡_}
 use mathlib.Core.List.{List}
 use Prim.Native.Nat.{ℕ, _+_, _≤_}
@@ -10,10 +10,12 @@ use Rattle.grid.specs.declared.Cell.{Cell}
 use Rattle.grid.specs.declared.Placement.{Placement}
 use Rattle.grid.specs.Grid.{InGrid, at}
 use Rattle.touch.specs.declared.Slabs.{Slabs}
-use Rattle.touch.specs.Slabs.{keptAll}
+use Rattle.touch.specs.Slabs.{keptAll, SlabsFit}
 use Rattle.mesh.specs.declared.Ends.{Ends}
 use Rattle.mesh.specs.declared.Block.{Block}
 use Rattle.mesh.specs.Ranges.{Named, OnGrid, holds}
+use Rattle.marking.specs.declared.Sweep.{Sweep}
+use Rattle.marking.specs.Marked.{hits}
 
 pub record Painted (r : Axes) (set : Cell → Bool) (before after : List ℕ) : Type 0 where
   pub size : length after ≡ length before
@@ -38,3 +40,14 @@ pub record Ready (ps : List Float) (ts : List ℕ) (r : Axes) (at : Placement) :
   pub named : Named ps ts
   pub on : OnGrid ps ts r at
   pub few : length ts ≤ 196608
+
+-- a triangle's candidates lie in the grid, there is one, and its slabs leave of them the cells that it hits
+pub record Sweeps (ps : List Float) (ts : List ℕ) (r : Axes) (at : Placement) (t : ℕ) (s : Sweep) : Type 0 where
+  pub fit : SlabsFit (s .slabs)
+  pub i-in : s .block .i .to ≤ r .r0
+  pub j-in : s .block .j .to ≤ r .r1
+  pub k-in : s .block .k .to ≤ r .r2
+  pub some : Cell
+  pub some-in : InGrid r some
+  pub some-held : holds (s .block) some ≡ true
+  pub cells : (c : Cell) → leftIn (s .block) (s .slabs) c ≡ hits ps ts r at t c

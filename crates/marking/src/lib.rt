@@ -3,11 +3,11 @@ ghost use mathlib.Core.Bool.{cond};
 ghost use mathlib.Core.Path.{_≡_};
 ghost use Prim.Native.Nat.{_≤_, _<_};
 ghost use lib.ListN.{length, replicate};
-ghost use Rattle.grid.specs.Grid.{Sheet};
+ghost use Rattle.grid.specs.Grid.{Sound, Sheet};
 ghost use Rattle.touch.specs.Slabs.{SlabsFit};
 ghost use Rattle.mesh.specs.Mesh.{triangles};
 ghost use Rattle.marking.specs.Marked.{outcome, hits, isSurface, markAnswer, markLabels};
-ghost use Rattle.marking.specs.Painted.{Painted, leftIn, rowOf, layerOf, Ready};
+ghost use Rattle.marking.specs.Painted.{Painted, leftIn, rowOf, layerOf, Ready, Sweeps};
 use grid::Axes;
 use grid::Cell;
 use grid::Checked;
@@ -21,6 +21,12 @@ use touch::Slabs;
 pub enum Marking {
     Marked,
     Refused(Refusal),
+}
+
+// Where the cells of a triangle lie.
+pub struct Sweep {
+    pub block: Block,
+    pub slabs: Slabs,
 }
 
 fn clear(labels: &mut [u8])
@@ -86,17 +92,28 @@ fn mark_block(labels: &mut [u8], s: Slabs, r: Axes, b: Block)
     }
 }
 
-// The cells of triangle t: what depends on the triangle alone is computed here, once.
+// The candidates of triangle t and its slabs, which leave of them the cells that it touches: what depends
+// on the triangle alone is computed here, once.
+pub fn sweep_of(ps: &[f32], ts: &[u32], r: Axes, at: Placement, t: usize) -> Sweep
+    requires { ⌜ Sound r ⌝ }
+    requires { ⌜ Ready (now ps) (now ts) r at ⌝ }
+    requires { ⌜ t < triangles (now ts) ⌝ }
+    ensures { λ s. ⌜ Sweeps (now (ps .entry)) (now (ts .entry)) r at t s ⌝ }
+{
+    let triangle = mesh::triangle_of(ps, ts, at, t);
+    let block = mesh::candidates(triangle, r);
+    let slabs = touch::slabs_of(triangle);
+    Sweep { block, slabs }
+}
+
 fn mark_triangle(labels: &mut [u8], ps: &[f32], ts: &[u32], r: Axes, at: Placement, t: usize)
     requires { ⌜ Sheet r (now labels) ⌝ }
     requires { ⌜ Ready (now ps) (now ts) r at ⌝ }
     requires { ⌜ t < triangles (now ts) ⌝ }
     ensures { λ _. ⌜ Painted r (hits (now (ps .entry)) (now (ts .entry)) r at t) (now (labels .entry)) (now (labels .exit)) ⌝ }
 {
-    let triangle = mesh::triangle_of(ps, ts, at, t);
-    let block = mesh::candidates(triangle, r);
-    let slabs = touch::slabs_of(triangle);
-    mark_block(labels, slabs, r, block);
+    let s = sweep_of(ps, ts, r, at, t);
+    mark_block(labels, s.slabs, r, s.block);
 }
 
 fn mark_triangles(labels: &mut [u8], ps: &[f32], ts: &[u32], r: Axes, at: Placement)

@@ -283,6 +283,13 @@ pub record IsCellOf (v : List ℤ) (c : Cell) : Type 0 where
   pub on-k : cellOf (along v 2) ≡ pos (c .k)
 
 -- a vertex that falls on a cell has one, and it is a cell of the grid
+pub own-cell-of : (r : Axes) (v : List ℤ) → onGrid r v ≡ true → (c : Cell) × IsCellOf v c
+own-cell-of r v h =
+    let x = on-held (r .r0) (along v 0) (on-i r v h) in
+    let y = on-held (r .r1) (along v 1) (on-j r v h) in
+    let z = on-held (r .r2) (along v 2) (on-k r v h) in
+    (record { i = x .0; j = y .0; k = z .0 }, record { on-i = x .1; on-j = y .1; on-k = z .1 })
+
 pub own-in : (r : Axes) (v : List ℤ) (c : Cell) → onGrid r v ≡ true → IsCellOf v c → InGrid r c
 own-in r v c h w =
     record {

@@ -1,3 +1,4 @@
 pub mod Orders
 pub mod Outputs
 pub mod Sums
+pub mod Keys

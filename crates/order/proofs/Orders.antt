@@ -3,17 +3,17 @@ use mathlib.Core.Bool.{Bool, true, false, cond}
 use mathlib.Core.Logic.{_⊎_, ⊎-elim}
 use mathlib.Core.Path.{_≡_, refl, sym, ap, subst, _∙_}
 use mathlib.Core.List.{List, [], _∷_, _++_, append-assoc, append-nil}
-use Prim.Native.Nat.{ℕ, suc, _+_, _*_, _-_, _≤_, _<_}
-use native.Mathlib.Nat.{sub-zero}
+use Prim.Native.Nat.{ℕ, zero, suc, _+_, _*_, _-_, _≤_, _<_}
+use native.Mathlib.Nat.{mul-assoc, suc-mul, sub-zero, zero-mul}
 use native.Mathlib.Omega.{arith}
 use lib.ListN.{length, length-append}
 use lib.Dec.{ltb}
 use borrow.Author.Tests.{lt-ltb, le-ltb}
 use Rattle.grid.specs.declared.Axes.{Axes}
 use Rattle.grid.specs.declared.Cell.{Cell}
-use Rattle.grid.specs.Grid.{Sound, InGrid}
+use Rattle.grid.specs.Grid.{Sound, InGrid, cells}
 use Rattle.grid.proofs.First.{le-or-lt}
-use Rattle.order.specs.Order.{row, rows, slabs, inOrder, keep, Stands, nextCell}
+use Rattle.order.specs.Order.{row, rows, slabs, inOrder, keep, Stands, key, nextCell}
 
 -- either way of a test
 pub by-bool : {A : Type 0} (x : Bool) → (x ≡ true → A) → (x ≡ false → A) → A
@@ -50,10 +50,7 @@ stands-in r c s h = record { i-in = h; j-in = s .j-high; k-in = s .k-high }
 pub first-stands : (r : Axes) → Sound r → Stands r (record { i = 0; j = 0; k = 0 })
 first-stands r s = record { i-high = omega arith; j-high = s .axis1 .some; k-high = s .axis2 .some }
 
--- a number for where a walk stands, which falls
-abbrev pub key : Cell → ℕ
-key c = c .i * 65536 + c .j * 256 + c .k
-
+-- what a walk has before it falls
 pub falls : (r : Axes) (c : Cell) → Sound r → InGrid r c → 33554432 - key (nextCell r c) < 33554432 - key c
 falls r c s g =
     next-cases r c (λ d. 33554432 - key d < 33554432 - key c)
@@ -192,3 +189,23 @@ module _ (r : Axes) (s : Sound r) (ok : Cell → Bool) where
       pub passing-room : ok c ≡ true → length done < length (keep ok (inOrder r))
       passing-room w =
           omega (arith, length-append (done ++ (c ∷ [])) (keep ok (left r d)), length-append done (c ∷ []), ap (λ (cs : List Cell). length cs) (passing-yes w .split))
+
+-- ---- as many cells as the grid has
+
+length-row : (i j k n : ℕ) → length (row i j k n) ≡ n
+unfolding row
+length-row i j k zero = refl
+length-row i j k (suc n) = ap suc (length-row i j (k + 1) n)
+
+length-rows : (z i j n : ℕ) → length (rows z i j n) ≡ n * z
+unfolding rows
+length-rows z i j zero = sym (zero-mul z)
+length-rows z i j (suc n) = length-append (row i j 0 z) (rows z i (j + 1) n) ∙ omega (arith, length-row i j 0 z, length-rows z i (j + 1) n, suc-mul n z)
+
+length-slabs : (y z i n : ℕ) → length (slabs y z i n) ≡ n * (y * z)
+unfolding slabs
+length-slabs y z i zero = sym (zero-mul (y * z))
+length-slabs y z i (suc n) = length-append (rows z i 0 y) (slabs y z (i + 1) n) ∙ omega (arith, length-rows z i 0 y, length-slabs y z (i + 1) n, suc-mul n (y * z))
+
+pub length-order : (r : Axes) → length (inOrder r) ≡ cells r
+length-order r = length-slabs (r .r1) (r .r2) 0 (r .r0) ∙ sym (mul-assoc (r .r0) (r .r1) (r .r2))

@@ -1,15 +1,17 @@
 -- Cells may be counted in memory order: a sum over cell numbers is the sum over the cells in list order. Assumes nothing.
-use mathlib.Core.Bool.{Bool, cond}
+use mathlib.Core.Bool.{Bool, false, cond}
+use mathlib.Core.Logic.{⊎-elim}
 use mathlib.Core.Path.{_≡_, refl, sym, ap, _∙_}
 use mathlib.Core.List.{List, [], _∷_, _++_}
-use Prim.Native.Nat.{ℕ, zero, suc, _+_, _*_, _-_}
+use Prim.Native.Nat.{ℕ, zero, suc, _+_, _*_, _≤_, _<_}
 use native.Mathlib.Nat.{suc-mul, mul-comm}
 use native.Mathlib.Omega.{arith}
 use lib.ListN.{length, getD, length-append}
 use Rattle.grid.specs.declared.Axes.{Axes}
 use Rattle.grid.specs.declared.Cell.{Cell}
 use Rattle.grid.specs.Counts.{count}
-use Rattle.grid.specs.Grid.{cells, at}
+use Rattle.grid.specs.Grid.{InGrid, cells, at}
+use Rattle.grid.proofs.First.{le-or-lt}
 use Rattle.order.specs.Order.{row, rows, slabs, inOrder, keep}
 use Rattle.order.proofs.Orders.{by-bool, keep-append}
 
@@ -159,3 +161,42 @@ kept-count r l ok e =
     ∙ sym (by-number r (λ n. one (ok (getD l n 0))))
     ∙ ap (λ (n : ℕ). sum (λ n. one (ok (getD l n 0))) n) (sym e)
     ∙ sym (count-sum ok l)
+
+-- ---- one cell
+
+sum-none : (f : ℕ → ℕ) (n : ℕ) → ((i : ℕ) → i < n → f i ≡ 0) → sum f n ≡ 0
+unfolding sum
+sum-none f zero h = refl
+sum-none f (suc n) h = omega (arith, sum-none f n (λ i l. h i (omega arith)), h n (omega arith))
+
+sum-single : (f : ℕ → ℕ) (n a : ℕ) → a < n → ((i : ℕ) → (i ≡ a → ⊥) → f i ≡ 0) → sum f n ≡ f a
+unfolding sum
+sum-single f zero a h z = absurd (none a h)
+  where
+    none : (a : ℕ) → a < 0 → ⊥
+    none a h = omega arith
+sum-single f (suc n) a h z =
+    ⊎-elim
+    (λ p. let e : n ≡ a = omega arith in omega (arith, sum-none f n (λ i l. z i (apart i l p)), ap f e))
+    (λ p. omega (arith, sum-single f n a p z, z n (later p)))
+    (le-or-lt n a)
+  where
+    apart : (i : ℕ) → i < n → n ≤ a → i ≡ a → ⊥
+    apart i l p e = omega arith
+
+    later : a < n → n ≡ a → ⊥
+    later p e = omega arith
+
+-- a set that has at most one cell
+pub kept-one : (p : Cell → Bool) (r : Axes) (c : Cell) → InGrid r c → ((d : Cell) → (d ≡ c → ⊥) → p d ≡ false) → length (keep p (inOrder r)) ≡ cond (p c) 1 0
+unfolding one
+kept-one p r c g z =
+    kept-cells p r
+    ∙ sum-single (λ i. sum (λ j. sum (λ k. v p i j k) (r .r2)) (r .r1)) (r .r0) (c .i) (g .i-in)
+    (λ i w. sum-none (λ j. sum (λ k. v p i j k) (r .r2)) (r .r1) (λ j l. sum-none (λ k. v p i j k) (r .r2) (λ k m. none i j k (λ e. w (ap (λ (d : Cell). d .i) e)))))
+    ∙ sum-single (λ j. sum (λ k. v p (c .i) j k) (r .r2)) (r .r1) (c .j) (g .j-in)
+    (λ j w. sum-none (λ k. v p (c .i) j k) (r .r2) (λ k m. none (c .i) j k (λ e. w (ap (λ (d : Cell). d .j) e))))
+    ∙ sum-single (λ k. v p (c .i) (c .j) k) (r .r2) (c .k) (g .k-in) (λ k w. none (c .i) (c .j) k (λ e. w (ap (λ (d : Cell). d .k) e)))
+  where
+    none : (i j k : ℕ) → (_≡_ {A = Cell} (record { i = i; j = j; k = k }) c → ⊥) → v p i j k ≡ 0
+    none i j k w = ap {B = ℕ} (λ (b : Bool). cond b 1 0) (z (record { i = i; j = j; k = k }) w)

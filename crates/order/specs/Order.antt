@@ -1,7 +1,7 @@
 -- 01, List, classes, planes, boxes: "i outermost, k innermost". Definitions only.
 use mathlib.Core.Bool.{Bool, cond}
 use mathlib.Core.List.{List, [], _∷_, _++_}
-use Prim.Native.Nat.{ℕ, zero, suc, _+_, _≤_, _<_}
+use Prim.Native.Nat.{ℕ, zero, suc, _+_, _*_, _≤_, _<_}
 use lib.Dec.{ltb}
 use Rattle.grid.specs.declared.Axes.{Axes}
 use Rattle.grid.specs.declared.Cell.{Cell}
@@ -53,6 +53,10 @@ pub record Stands (r : Axes) (c : Cell) : Type 0 where
   pub i-high : c .i ≤ r .r0
   pub j-high : c .j < r .r1
   pub k-high : c .k < r .r2
+
+-- list order as a number, for coordinates below 256
+abbrev pub key : Cell → ℕ
+key c = c .i * 65536 + c .j * 256 + c .k
 
 -- the next cell
 abbrev pub nextCell : Axes → Cell → Cell

@@ -1,9 +1,9 @@
-// From parry3d 0.30.2, src/transformation/voxelization/voxelized_volume.rs: `FillMode`, `VoxelValue`, and of
-// `VoxelizedVolume` the functions from `allocate` to `replace_value`, with the `match fill_mode` of `do_voxelize`
+// From parry3d 0.30.2, src/transformation/voxelization/voxelized_volume.rs: `FillMode`, `VoxelValue`, `VoxelData`, and
+// of `VoxelizedVolume` the functions from `allocate` to `replace_value`, with the `match fill_mode` of `do_voxelize`
 // before them as `fill`. Changed and added lines end with `// touched`. Left out: the doc comments, the `cfg`
-// attributes and the 2D arms under them, the `use` lines, `Default` and the functions of `FillMode`, the fields
-// `origin`, `scale`, `data` and `primitive_intersections`, and in `allocate` the lines for `data`. The crate's marks
-// come from triangles; here `from_marks` sets them.
+// attributes and the 2D arms under them, the `use` lines, `Default` and the functions of `FillMode`. The crate's marks
+// come from triangles; here `from_marks` sets them. Its conversion to a `VoxelSet` is in list.rs, `to_trimesh` in
+// boxes.rs; they alone ask for `origin`, `scale`, `data` and `primitive_intersections`.
 //
 // Rust port, with modifications, of https://github.com/kmammou/v-hacd/blob/master/src/VHACD_Lib/src/vhacdVolume.cpp
 // By Khaled Mamou
@@ -23,7 +23,7 @@
 // >
 // > THIS SOFTWARE IS PROVIDED BY THE COPYRIGHT HOLDERS AND CONTRIBUTORS "AS IS" AND ANY EXPRESS OR IMPLIED WARRANTIES, INCLUDING, BUT NOT LIMITED TO, THE IMPLIED WARRANTIES OF MERCHANTABILITY AND FITNESS FOR A PARTICULAR PURPOSE ARE DISCLAIMED. IN NO EVENT SHALL THE COPYRIGHT HOLDER OR CONTRIBUTORS BE LIABLE FOR ANY DIRECT, INDIRECT, INCIDENTAL, SPECIAL, EXEMPLARY, OR CONSEQUENTIAL DAMAGES (INCLUDING, BUT NOT LIMITED TO, PROCUREMENT OF SUBSTITUTE GOODS OR SERVICES; LOSS OF USE, DATA, OR PROFITS; OR BUSINESS INTERRUPTION) HOWEVER CAUSED AND ON ANY THEORY OF LIABILITY, WHETHER IN CONTRACT, STRICT LIABILITY, OR TORT (INCLUDING NEGLIGENCE OR OTHERWISE) ARISING IN ANY WAY OUT OF THE USE OF THIS SOFTWARE, EVEN IF ADVISED OF THE POSSIBILITY OF SUCH DAMAGE.
 
-use crate::sizing::DIM; // touched
+use crate::sizing::{Real, Vector, DIM}; // touched
 
 #[derive(Copy, Clone, Debug, PartialEq, Eq)]
 pub enum FillMode {
@@ -53,15 +53,32 @@ impl VoxelValue { // touched
     } // touched
 } // touched
 
+#[derive(Copy, Clone, Debug, PartialEq, Eq)]
+pub struct VoxelData { // touched: pub
+    pub num_primitive_intersections: u32, // touched: pub
+}
+
 pub struct VoxelizedVolume {
+    pub origin: Vector, // touched: pub
+    pub scale: Real, // touched: pub
     pub resolution: [u32; DIM], // touched: pub
     pub values: Vec<VoxelValue>, // touched: pub
+    pub data: Vec<VoxelData>, // touched: pub
+    pub primitive_intersections: Vec<(u32, u32)>, // touched: pub
     pub scans: u32, // touched: how often `propagate_values` has gone over the whole grid
 }
 
 impl VoxelizedVolume {
     pub fn from_marks(resolution: [u32; DIM], surface: impl Fn(u32) -> bool) -> Self { // touched: by cell number
-        let mut result = VoxelizedVolume { resolution, values: Vec::new(), scans: 0 }; // touched
+        let mut result = VoxelizedVolume { // touched
+            origin: Vector::ZERO, // touched
+            scale: 1.0, // touched
+            resolution, // touched
+            values: Vec::new(), // touched
+            data: Vec::new(), // touched
+            primitive_intersections: Vec::new(), // touched
+            scans: 0, // touched
+        }; // touched
         result.allocate(); // touched
         for (idx, value) in result.values.iter_mut().enumerate() { // touched
             if surface(idx as u32) { // touched
@@ -170,9 +187,15 @@ impl VoxelizedVolume {
         let len = self.resolution[0] * self.resolution[1] * self.resolution[2];
         self.values
             .resize(len as usize, VoxelValue::PrimitiveUndefined);
+        self.data.resize(
+            len as usize,
+            VoxelData {
+                num_primitive_intersections: 0,
+            },
+        );
     }
 
-    fn voxel_index(&self, i: u32, j: u32, _k: u32) -> u32 {
+    pub fn voxel_index(&self, i: u32, j: u32, _k: u32) -> u32 { // touched: pub
         return i + j * self.resolution[0] + _k * self.resolution[0] * self.resolution[1];
     }
 

@@ -33,6 +33,20 @@ pub struct Vector {
 
 impl Vector {
     pub const ZERO: Vector = Vector { x: 0.0, y: 0.0, z: 0.0 };
+
+    pub fn new(x: Real, y: Real, z: Real) -> Vector {
+        Vector { x, y, z }
+    }
+
+    /// All components 0, save component i.
+    pub fn ith(i: usize, value: Real) -> Vector {
+        let at = |a: usize| if a == i { value } else { 0.0 };
+        Vector { x: at(0), y: at(1), z: at(2) }
+    }
+
+    pub fn dot(self, o: Vector) -> Real {
+        (self.x * o.x) + (self.y * o.y) + (self.z * o.z)
+    }
 }
 
 impl core::ops::Index<usize> for Vector {
@@ -42,10 +56,31 @@ impl core::ops::Index<usize> for Vector {
     }
 }
 
+impl core::ops::Add for Vector {
+    type Output = Vector;
+    fn add(self, o: Vector) -> Vector {
+        Vector { x: self.x + o.x, y: self.y + o.y, z: self.z + o.z }
+    }
+}
+
+impl core::ops::Add<&Vector> for Vector {
+    type Output = Vector;
+    fn add(self, o: &Vector) -> Vector {
+        self + *o
+    }
+}
+
 impl core::ops::Sub for Vector {
     type Output = Vector;
     fn sub(self, o: Vector) -> Vector {
         Vector { x: self.x - o.x, y: self.y - o.y, z: self.z - o.z }
+    }
+}
+
+impl core::ops::Mul<Real> for Vector {
+    type Output = Vector;
+    fn mul(self, s: Real) -> Vector {
+        Vector { x: self.x * s, y: self.y * s, z: self.z * s }
     }
 }
 

@@ -8,8 +8,9 @@ use lib.ListN.{getD}
 use Rattle.grid.specs.declared.Cell.{Cell}
 use Rattle.grid.specs.Grid.{InGrid, num, at}
 use Rattle.grid.proofs.Cells.{num-lt}
+use Rattle.order.specs.Order.{key}
 use Rattle.order.specs.Output.{Written}
-use Rattle.order.proofs.Orders.{stands-in, key, falls}
+use Rattle.order.proofs.Orders.{stands-in, falls}
 use Rattle.listed.specs.Listed.{width, numbersOf}
 use Rattle.list.specs.List.{isListed, flagOf}
 use Rattle.list.proofs.Rows.{Writing, writing-first, writing-done, writing-few, writing-no, writing-yes, writing-room}

@@ -5,119 +5,20 @@
 //! A case is a row of little-endian words: the lengths of the point and the triangle list, three axes, the
 //! bits of the origin, the scale and the reciprocal, the length of the label buffer, then both lists. If a
 //! list is longer than 192 both are left out: the points are then all 1.0 and the triangles all 0. Before
-//! the call label n is n % 5 + 1. The model shares nothing with the library: it is whole-number arithmetic
-//! in i128 over the eight corners of each cell. The cases chosen by hand come first; random ones, from a
-//! fixed seed, fill the file up. How many there are of each kind is printed.
+//! the call label n is n % 5 + 1. The model, `lifted::marks`, shares nothing with the library. The cases chosen
+//! by hand come first; random ones, from a fixed seed, fill the file up. How many there are of each kind is printed.
+
+use lifted::marks::{self, candidates, case, cell, changed, directions, dot, down, gaps, parts, refusal, scaled, single};
+use lifted::marks::{triangles, up, Case, Triple, FAR, LEAST, MOST};
 
 const LIMIT: usize = 65536;
-const FAR: f32 = 1048576.0;
-const LEAST: f32 = 1.0 / 262144.0;
-const MOST: f32 = 2097152.0;
 /// One unit of a vertex coordinate, in cells, and the half of it that rounding turns on.
 const UNIT: f32 = 1.0 / 256.0;
 const HALF: f32 = 1.0 / 512.0;
 
-type Triple = [i128; 3];
-type Triangle = [Triple; 3];
-
-#[derive(Clone)]
-struct Case {
-    points: Vec<f32>,
-    triangles: Vec<u32>,
-    axes: [u32; 3],
-    origin: [f32; 3],
-    scale: f32,
-    reciprocal: f32,
-    length: usize,
-}
-
-/// The largest whole number not above 256 t + 1/2: with t = m 2^e that is (m 2^(e + 9) + 1) / 2, rounded down.
-fn parts(t: f32) -> i128 {
-    let bits = t.to_bits();
-    let (field, low) = ((bits >> 23 & 255) as i32, (bits & 0x7f_ffff) as i128);
-    let (size, e) = if field == 0 { (low, -149) } else { (low + (1 << 23), field - 150) };
-    let m = if bits >> 31 == 1 { -size } else { size };
-    match e + 9 {
-        s if s >= 0 => ((m << s) + 1).div_euclid(2),
-        s if s >= -100 => (m + (1 << -s)).div_euclid(2 << -s),
-        _ => 0, // t is far below 1/512 in magnitude
-    }
-}
-
-fn cell(q: i128) -> i128 {
-    (q + 128).div_euclid(256)
-}
-
-fn triangles(c: &Case) -> Vec<Triangle> {
-    let coordinate = |v: u32, a: usize| parts((c.points[3 * v as usize + a] - c.origin[a]) * c.reciprocal);
-    c.triangles.chunks(3).map(|t| [0, 1, 2].map(|n| [0, 1, 2].map(|a| coordinate(t[n], a)))).collect()
-}
-
-/// The lowest number that applies, with its place.
-fn refusal(c: &Case) -> Option<(usize, usize)> {
-    let (p, t) = (c.points.len(), c.triangles.len());
-    let whole = |fault: bool| fault.then_some(0);
-    let on_grid = |v: &Triple| (0..3).all(|a| (0..c.axes[a] as i128).contains(&cell(v[a])));
-    let place = |number| match number {
-        1 => whole(p % 3 != 0 || t % 3 != 0 || p / 3 > 65536 || t / 3 > 65536),
-        2 => whole(p == 0),
-        // a NaN is not at most anything
-        3 => c.origin.iter().chain(&c.points).position(|x| !(x.abs() <= FAR)),
-        4 => c.triangles.chunks(3).position(|t| t.iter().any(|&v| v as usize >= p / 3)),
-        5 => whole(!(LEAST <= c.scale && c.scale <= MOST) || c.reciprocal != 1.0 / c.scale),
-        8 => c.axes.iter().position(|&r| r == 0 || r > 256),
-        9 => whole(c.length as u32 != c.axes.iter().product()),
-        10 => triangles(c).iter().position(|t| !t.iter().all(on_grid)),
-        _ => None,
-    };
-    (1..=10).find_map(|number| Some((number, place(number)?)))
-}
-
-fn cross(a: Triple, b: Triple) -> Triple {
-    [a[1] * b[2] - a[2] * b[1], a[2] * b[0] - a[0] * b[2], a[0] * b[1] - a[1] * b[0]]
-}
-
-/// The three axes, the normal, and the products of the first edge with each axis, of the second, of the third.
-fn directions(t: &Triangle) -> [Triple; 13] {
-    let axes = [[1, 0, 0], [0, 1, 0], [0, 0, 1]];
-    let edges = [0, 1, 2].map(|n| [0, 1, 2].map(|a| t[(n + 1) % 3][a] - t[n][a]));
-    std::array::from_fn(|n| match n {
-        0..=2 => axes[n],
-        3 => cross(edges[0], edges[1]),
-        _ => cross(edges[(n - 4) / 3], axes[(n - 4) % 3]),
-    })
-}
-
-/// The least and the greatest projection.
-fn span(direction: &Triple, points: &[Triple]) -> (i128, i128) {
-    let dot = |p: &Triple| p[0] * direction[0] + p[1] * direction[1] + p[2] * direction[2];
-    (points.iter().map(dot).min().unwrap(), points.iter().map(dot).max().unwrap())
-}
-
-/// How far apart triangle and cell are along each direction: above 0 it separates them, 0 is contact.
-fn gaps(t: &Triangle, at: Triple) -> [i128; 13] {
-    let corner = |n: usize| [0, 1, 2].map(|a| 256 * at[a] + if n >> a & 1 == 0 { -128 } else { 128 });
-    let cube: [Triple; 8] = std::array::from_fn(corner);
-    directions(t).map(|d| {
-        let ((tl, th), (cl, ch)) = (span(&d, t), span(&d, &cube));
-        (tl - ch).max(cl - th)
-    })
-}
-
-fn candidates(t: &Triangle, axes: [u32; 3]) -> Vec<Triple> {
-    let range = |a: usize| {
-        let cells = [0, 1, 2].map(|v| cell(t[v][a]));
-        let (least, greatest) = (cells.iter().min().unwrap(), cells.iter().max().unwrap());
-        (least - 1).max(0)..(greatest + 1).min(axes[a] as i128)
-    };
-    let layer = |k| range(1).flat_map(move |j| range(0).map(move |i| [i, j, k]));
-    range(2).flat_map(layer).collect()
-}
-
 /// The labels after a call that is not refused. Counts how many candidates each direction dismisses alone.
 fn surface(c: &Case, alone: &mut [usize; 13]) -> Vec<u8> {
-    let [r0, r1, _] = c.axes.map(|r| r as i128);
-    let number = |at: Triple| (at[0] + at[1] * r0 + at[2] * r0 * r1) as usize;
+    let number = |at: Triple| marks::number(at, c.axes);
     let mut labels = vec![0; c.length];
     for t in triangles(c) {
         for at in candidates(&t, c.axes) {
@@ -156,41 +57,6 @@ fn words(c: &Case) -> Vec<u8> {
         assert!(c.points.iter().all(|&x| x == 1.0) && c.triangles.iter().all(|&n| n == 0));
     }
     out.iter().flat_map(|w| w.to_le_bytes()).collect()
-}
-
-/// A case with the origin at 0, scale 1, and a buffer that fits.
-fn case(points: &[[f32; 3]], triangles: &[[u32; 3]], axes: [u32; 3]) -> Case {
-    let (points, triangles, length) = (points.concat(), triangles.concat(), axes.iter().product::<u32>() as usize);
-    Case { points, triangles, axes, origin: [0.0; 3], scale: 1.0, reciprocal: 1.0, length }
-}
-
-/// One triangle of its own three points.
-fn single(t: [[f32; 3]; 3], axes: [u32; 3]) -> Case {
-    case(&t, &[[0, 1, 2]], axes)
-}
-
-/// One triangle that is a point.
-fn dot(p: [f32; 3], axes: [u32; 3]) -> Case {
-    case(&[p], &[[0, 0, 0]], axes)
-}
-
-fn scaled(c: Case, scale: f32) -> Case {
-    Case { scale, reciprocal: 1.0 / scale, ..c }
-}
-
-fn changed(mut c: Case, change: impl FnOnce(&mut Case)) -> Case {
-    change(&mut c);
-    c
-}
-
-/// The next f32 away from 0.
-fn up(x: f32) -> f32 {
-    f32::from_bits(x.to_bits() + 1)
-}
-
-/// The next f32 towards 0.
-fn down(x: f32) -> f32 {
-    f32::from_bits(x.to_bits() - 1)
 }
 
 /// Refusals 1 and 2: every short length, the greatest numbers of points and triangles, and one more.

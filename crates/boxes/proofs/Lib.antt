@@ -1,0 +1,5 @@
+pub mod Rows
+pub mod Tables
+pub mod Laws
+pub mod Writes
+pub mod Calls

@@ -1,0 +1,62 @@
+-- `pairs::visit_block` meets its contract: slab after slab (`Blocking`). Assumes nothing.
+use Rattle.pairs.proofs.visit_block.Statement.{statement}
+use Rattle.pairs.proofs.visit_block.Tie as tie
+use Prim.Native.Nat.{_-_}
+use native.Mathlib.Omega.{arith}
+use Rattle.pairs.proofs.Visiting.{visited-size}
+use Rattle.pairs.proofs.Sweeping.{Blocking, blocking-first, blocking-done, blocking-on, block-table, slab-behind, slab-room}
+
+abbrev Inv-loop : tie.InvT-loop
+Inv-loop records₀ list₀ n s t placing b to x₀ i₀ records list x i = Blocking placing n t s b records₀ list₀ records list x i
+
+abbrev μ-loop : tie.MeasureT-loop
+μ-loop records₀ list₀ n s t placing b to x₀ i₀ records list x i = to - i
+
+loop-holds : tie.Need-loop-holds Inv-loop μ-loop
+loop-holds c = let a = c .before .before .args in let p = c .before .before .pre in blocking-first (a .placing) (a .n) (a .t) (a .s) (a .b) (a .records .now) (a .list .now) _ (p .0 .0) (p .1 .1)
+
+visit-slab-requires : tie.Need-visit-slab-requires Inv-loop μ-loop
+visit-slab-requires c κs =
+    let a = c .before .before .before .before .before .before .args in let p = c .before .before .before .before .before .before .pre in let w = c .before .before .before .loop .inv in let l = c .before .before .loop-test .taken in (
+      (block-table (a .placing) (a .n) (a .t) (a .s) (a .b) (a .records .now) (a .list .now) _ (p .0 .0) (p .1 .1) _ _ _ _ w, p .0 .1),
+      (
+        (omega (arith, l, p .1 .0 .0), p .1 .0 .1, p .1 .0 .2, p .1 .0 .3),
+        (
+          slab-behind (a .placing) (a .n) (a .t) (a .s) (a .b) (a .records .now) (a .list .now) _ (p .0 .0) (p .1 .1) _ _ _ _ w,
+          slab-room (a .placing) (a .n) (a .t) (a .s) (a .b) (a .records .now) (a .list .now) _ (p .0 .0) (p .1 .1) _ _ _ _ w l _ (visited-size _ _ _ _ _ _ _ (w .visits)),
+        ),
+      ),
+    )
+
+add-i : tie.Need-add-i Inv-loop μ-loop
+add-i c = omega (arith, c .before .before .before .before .before .before .before .loop-test .taken, c .before .before .before .before .before .before .before .before .before .before .before .pre .1 .0 .0)
+
+loop-less : tie.Need-loop-less Inv-loop μ-loop
+loop-less c = omega (arith, c .before .before .before .before .before .before .before .loop-test .taken)
+
+loop-again : tie.Need-loop-again Inv-loop μ-loop
+loop-again c = let a = c .before .before .before .before .before .before .before .before .before .before .before .args in let p = c .before .before .before .before .before .before .before .before .before .before .before .pre in blocking-on (a .placing) (a .n) (a .t) (a .s) (a .b) (a .records .now) (a .list .now) _ (p .0 .0) (p .1 .1) _ _ _ _ (c .before .before .before .before .before .before .before .before .loop .inv) (c .before .before .before .before .before .before .before .loop-test .taken) _ _ _ (c .before .before .before .before .visit-slab .ensures .0) (c .before .before .before .before .visit-slab .ensures .1)
+
+same-length : tie.Need-same-length Inv-loop μ-loop
+same-length c = c .before .loop .inv .visits .bumped .size
+
+same-length-2 : tie.Need-same-length-2 Inv-loop μ-loop
+same-length-2 c = visited-size _ _ _ _ _ _ _ (c .before .loop .inv .visits)
+
+returns : tie.Need-returns Inv-loop μ-loop
+returns c = let a = c .before .before .before .before .args in let p = c .before .before .before .before .pre in blocking-done (a .placing) (a .n) (a .t) (a .s) (a .b) (a .records .now) (a .list .now) _ (p .0 .0) (p .1 .1) _ _ _ _ (c .before .loop .inv) (c .loop-test .left)
+
+pub visit-block-spec : {M : Type 1} → statement M
+visit-block-spec =
+    tie.close
+    (tie.spec
+    Inv-loop
+    μ-loop
+    loop-holds
+    visit-slab-requires
+    add-i
+    loop-less
+    loop-again
+    same-length
+    same-length-2
+    returns)

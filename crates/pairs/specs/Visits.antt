@@ -1,0 +1,117 @@
+-- What the passes of `list_pairs` say to each other, over the first n records of a slice. Definitions only.
+use mathlib.Core.Bool.{Bool, true, false, cond, _&&_}
+use mathlib.Core.Logic.{_⊎_}
+use mathlib.Core.Path.{_≡_}
+use mathlib.Core.List.{List, [], _∷_}
+use Prim.Native.Nat.{ℕ, _+_, _*_, _≤_, _<_}
+use lib.Dec.{eqb, leb, ltb}
+use lib.ListN.{length, getD}
+use lib.Ieee.{Float}
+use Rattle.grid.specs.declared.Axes.{Axes}
+use Rattle.grid.specs.declared.Cell.{Cell}
+use Rattle.grid.specs.declared.Placement.{Placement}
+use Rattle.touch.specs.declared.Slabs.{Slabs}
+use Rattle.touch.specs.Slabs.{keptAll, CellFits}
+use Rattle.mesh.specs.declared.Block.{Block}
+use Rattle.marking.specs.Marked.{hits}
+use Rattle.marking.specs.Painted.{one}
+use Rattle.order.specs.Order.{key, chosen}
+use Rattle.order.proofs.Sums.{sum}
+use Rattle.listed.specs.declared.Listed.{Listed}
+use Rattle.listed.specs.Listed.{width, recordAt, ranged}
+
+-- ---- the records as a table in list order
+
+abbrev pub keyAt : List ℕ → ℕ → ℕ
+keyAt o p = key (recordAt o p .cell)
+
+abbrev pub endAt : List ℕ → ℕ → ℕ
+endAt o p = recordAt o p .end
+
+-- n records, in list order
+pub record Table (o : List ℕ) (n : ℕ) : Type 0 where
+  pub room : n * width ≤ length o
+  pub few : n ≤ 16777216
+  pub near : (p : ℕ) → p < n → CellFits (recordAt o p .cell)
+  pub up : (p q : ℕ) → p < q → q < n → keyAt o p < keyAt o q
+
+-- the records before x have keys under a bound
+pub record Behind (o : List ℕ) (n bound x : ℕ) : Type 0 where
+  pub most : x ≤ n
+  pub under : (p : ℕ) → p < x → keyAt o p < bound
+
+-- and those from y on have not
+pub record Ahead (o : List ℕ) (n bound y : ℕ) : Type 0 where
+  pub most : y ≤ n
+  pub over : (p : ℕ) → y ≤ p → p < n → bound ≤ keyAt o p
+
+-- ---- which records a triangle goes to
+
+-- a record of a surface cell of a set
+abbrev pub meets : (Cell → Bool) → Listed → Bool
+meets set e = eqb (e .surface) 1 && set (e .cell)
+
+-- the cells with keys from one up to, not including, another that slabs leave
+abbrev pub keyed : ℕ → ℕ → Slabs → Cell → Bool
+keyed want past s c = (leb want (key c) && ltb (key c) past) && keptAll s c
+
+-- slab i of a block
+abbrev pub slabAt : Block → ℕ → Block
+slabAt b i = record { i = one i; j = b .j; k = b .k }
+
+-- ---- each record gets some triangle numbers
+
+-- triangle t, if its cell is in a set
+abbrev pub gets : ℕ → (Cell → Bool) → List ℕ → ℕ → List ℕ
+gets t set o p = cond (meets set (recordAt o p)) (t ∷ []) []
+
+-- the first t triangles, each if it has the record's cell as a candidate and touches it
+abbrev pub allOf : List Float → List ℕ → Axes → Placement → List ℕ → ℕ → ℕ → List ℕ
+allOf ps ts r at o t p = chosen (λ u. meets (hits ps ts r at u) (recordAt o p)) t
+
+-- then its range ends so much further on
+pub record Bumped (n : ℕ) (g : ℕ → List ℕ) (before after : List ℕ) : Type 0 where
+  pub size : length after ≡ length before
+  pub rows : (p : ℕ) → p < n → recordAt after p ≡ ranged (recordAt before p .start) (endAt before p + length (g p)) (recordAt before p)
+  pub past : (x : ℕ) → n * width ≤ x → getD after x 0 ≡ getD before x 0
+
+-- and, where they are placed, they stand in the list from where its range ended; the rest of the list is as it was
+pub record Filled (n : ℕ) (g : ℕ → List ℕ) (o before after : List ℕ) : Type 0 where
+  pub size : length after ≡ length before
+  pub there : (p : ℕ) → p < n → (x : ℕ) → x < length (g p) → getD after (endAt o p + x) 0 ≡ getD (g p) x 0
+  pub others : (y : ℕ) → ((p : ℕ) → p < n → (y < endAt o p) ⊎ (endAt o p + length (g p) ≤ y)) → getD after y 0 ≡ getD before y 0
+
+-- a pass that places, or does not
+abbrev pub Given : Bool → ℕ → (ℕ → List ℕ) → List ℕ → List ℕ → List ℕ → Type 0
+Given true n g o before after = Filled n g o before after
+Given false n g o before after = after ≡ before
+
+pub record Visited (placing : Bool) (n : ℕ) (g : ℕ → List ℕ) (o q o' q' : List ℕ) : Type 0 where
+  pub bumped : Bumped n g o o'
+  pub given : Given placing n g o q q'
+
+-- ---- the room that it needs
+
+-- places that do not meet, in a list of length len
+pub record Places (n : ℕ) (g : ℕ → List ℕ) (o : List ℕ) (len : ℕ) : Type 0 where
+  pub inside : (p : ℕ) → p < n → endAt o p + length (g p) ≤ len
+  pub apart : (p q : ℕ) → p < q → q < n → endAt o p + length (g p) ≤ endAt o q
+
+abbrev pub Free : Bool → ℕ → (ℕ → List ℕ) → List ℕ → ℕ → Type 0
+Free true n g o len = Places n g o len
+Free false n g o len = Unit
+
+pub record Room (placing : Bool) (n : ℕ) (g : ℕ → List ℕ) (o : List ℕ) (len : ℕ) : Type 0 where
+  pub fits : (p : ℕ) → p < n → endAt o p + length (g p) ≤ 4294967295
+  pub free : Free placing n g o len
+
+-- ---- from counts to places
+
+-- the ends of the records before p, added up
+abbrev pub endsBefore : List ℕ → ℕ → ℕ
+endsBefore o p = sum (endAt o) p
+
+pub record Laid (n : ℕ) (before after : List ℕ) : Type 0 where
+  pub size : length after ≡ length before
+  pub rows : (p : ℕ) → p < n → recordAt after p ≡ ranged (endsBefore before p) (endsBefore before p) (recordAt before p)
+  pub past : (x : ℕ) → n * width ≤ x → getD after x 0 ≡ getD before x 0

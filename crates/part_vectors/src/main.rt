@@ -1,0 +1,178 @@
+// Replays the stored cases of classes, planes and splits: standard input has the cases, `stdout` what the
+// crate's lifted functions answer, and plain models for refusals (rust/lifted writes both). A case is 26
+// words, which are a kind, five numbers of two words each, the placement, the descriptions of two lists (four
+// words each) and the lengths of two outputs; then the stored numbers of both lists.
+// - kind 0: classes; the first number is how many triangles there are, the lists are entries and ends;
+// - kind 1: planes; the numbers are axis, low, high, best and step;
+// - kind 2: split; the first number is the axis, the placement's first is d, the first list has the points.
+ghost use mathlib.Core.Path.{_≡_};
+ghost use Prim.Native.Nat.{_+_, _*_, _≤_};
+ghost use lib.ListN.{length};
+use grid::Placement;
+use parts::Classing;
+use parts::Planing;
+use parts::Splitting;
+use stored::Row;
+
+// The lists of a case; `next` is where the stored numbers end.
+struct Lists {
+    one: Row,
+    other: Row,
+    next: usize,
+}
+
+// ---- classes
+
+fn classify_and_report(entries: &[u32], ends: &[u32], count: usize, classes: &mut [u32]) {
+    match parts::classify(entries, ends, count, classes) {
+        Classing::Classed => {
+            replay::text(b"classed ");
+            stored::show_words(classes, count);
+        }
+        Classing::Refused(f) => stored::refused(f),
+    }
+    stored::line(stored::sum_words(classes));
+}
+
+fn classes_to(entries: &[u32], ends: &[u32], count: usize, n: usize)
+    requires { ⌜ n ≤ 196620 ⌝ }
+{
+    let mut classes = stored::blank_words(n);
+    classify_and_report(entries, ends, count, &mut classes[..n]);
+}
+
+fn classes_case(s: &[u8], at: usize, l: Lists, n: usize)
+    requires { ⌜ (at + 104 ≤ length (now s)) × (n ≤ 196620) ⌝ }
+    requires { ⌜ (l .one .from + 4 * (l .one .stored) ≤ length (now s)) × (l .one .length ≤ 196620) ⌝ }
+    requires { ⌜ (l .other .from + 4 * (l .other .stored) ≤ length (now s)) × (l .other .length ≤ 196620) ⌝ }
+{
+    let entries = stored::words(s, l.one);
+    let ends = stored::words(s, l.other);
+    let count = stored::wide(s, at + 4);
+    classes_to(&entries[..l.one.length], &ends[..l.other.length], count, n);
+}
+
+// ---- planes
+
+fn planes_and_report(
+    at: Placement,
+    axis: usize,
+    low: usize,
+    high: usize,
+    best: usize,
+    step: usize,
+    ds: &mut [f32],
+) {
+    match parts::planes_about(at, axis, low, high, best, step, ds) {
+        Planing::Planned(p) => {
+            replay::text(b"planned ");
+            replay::number(p.first as u64);
+            replay::number(p.count as u64);
+            stored::show_floats(ds, p.count);
+        }
+        Planing::Refused(f) => stored::refused(f),
+    }
+    stored::line(stored::sum_floats(ds));
+}
+
+fn planes_case(s: &[u8], at: usize, n: usize)
+    requires { ⌜ (at + 104 ≤ length (now s)) × (n ≤ 196620) ⌝ }
+{
+    let axis = stored::wide(s, at + 4);
+    let low = stored::wide(s, at + 12);
+    let high = stored::wide(s, at + 20);
+    let best = stored::wide(s, at + 28);
+    let step = stored::wide(s, at + 36);
+    let place = stored::placement_of(s, at + 44);
+    let mut ds = stored::blank_floats(n);
+    planes_and_report(place, axis, low, high, best, step, &mut ds[..n]);
+}
+
+// ---- split
+
+fn split_and_report(ps: &[f32], axis: usize, d: f32, above: &mut [f32], below: &mut [f32]) {
+    match parts::split_points(ps, axis, d, above, below) {
+        Splitting::Split(n) => {
+            replay::text(b"split ");
+            replay::number(n.first as u64);
+            replay::number(n.second as u64);
+            stored::show_floats(above, 3 * replay::at_most(n.first, 65536));
+            stored::show_floats(below, 3 * replay::at_most(n.second, 65536));
+        }
+        Splitting::Refused(f) => stored::refused(f),
+    }
+    replay::number(stored::sum_floats(above));
+    stored::line(stored::sum_floats(below));
+}
+
+fn split_to(ps: &[f32], axis: usize, d: f32, n: usize, m: usize)
+    requires { ⌜ (n ≤ 196620) × (m ≤ 196620) ⌝ }
+{
+    let mut above = stored::blank_floats(n);
+    let mut below = stored::blank_floats(m);
+    split_and_report(ps, axis, d, &mut above[..n], &mut below[..m]);
+}
+
+fn split_case(s: &[u8], at: usize, l: Lists, n: usize, m: usize)
+    requires { ⌜ (at + 104 ≤ length (now s)) × (n ≤ 196620) × (m ≤ 196620) ⌝ }
+    requires { ⌜ (l .one .from + 4 * (l .one .stored) ≤ length (now s)) × (l .one .length ≤ 196620) ⌝ }
+{
+    let ps = stored::floats(s, l.one);
+    let axis = stored::wide(s, at + 4);
+    let d = replay::float_of(replay::word(s, at + 44));
+    split_to(&ps[..l.one.length], axis, d, n, m);
+}
+
+// ---- the input
+
+fn lists_of(s: &[u8], at: usize) -> Lists
+    requires { ⌜ at + 104 ≤ length (now s) ⌝ }
+    ensures { λ l. ⌜ (l .one .from + 4 * (l .one .stored) ≤ l .next) × (l .one .length ≤ 196620) ⌝ }
+    ensures { λ l. ⌜ (l .other .from + 4 * (l .other .stored) ≤ l .next) × (l .other .length ≤ 196620) ⌝ }
+    ensures { λ l. ⌜ at + 104 ≤ l .next ⌝ }
+{
+    let one = stored::row_of(s, at + 64, at + 104);
+    let other = stored::row_of(s, at + 80, one.from + 4 * one.stored);
+    let next = other.from + 4 * other.stored;
+    Lists { one, other, next }
+}
+
+// The case at a place; answers where the next begins, or the end.
+fn one_case(s: &[u8], at: usize) -> usize
+    requires { ⌜ at + 104 ≤ length (now s) ⌝ }
+    ensures { λ n. ⌜ (at + 104 ≤ n) × (n ≤ length (now (s .entry))) ⌝ }
+{
+    let l = lists_of(s, at);
+    let next = l.next;
+    if s.len() < next {
+        return s.len();
+    }
+    let kind = replay::word(s, at);
+    let n = replay::at_most(replay::word(s, at + 96) as usize, 196620);
+    let m = replay::at_most(replay::word(s, at + 100) as usize, 196620);
+    if kind == 0 {
+        classes_case(s, at, l, n);
+        return next;
+    }
+    if kind == 1 {
+        planes_case(s, at, n);
+        return next;
+    }
+    split_case(s, at, l, n, m);
+    next
+}
+
+fn all_cases(s: &[u8])
+    requires { ⌜ length (now s) ≤ 262144 ⌝ }
+{
+    let mut at = 0usize;
+    while at + 104 <= s.len() {
+        at = one_case(s, at);
+    }
+}
+
+fn main() {
+    let mut buffer = stored::input();
+    let n = io::read_full(0, &mut buffer);
+    all_cases(&buffer[..n]);
+}

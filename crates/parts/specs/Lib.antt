@@ -1,0 +1,3 @@
+pub mod Classes
+pub mod Planes
+pub mod Split

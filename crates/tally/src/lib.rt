@@ -1,0 +1,98 @@
+// How many pairs a list has: a surface cell and a triangle that has it as a candidate and touches it. They
+// are counted in 64 bits before anything is written, over the labels, in memory order.
+ghost use mathlib.Core.Path.{_≡_};
+ghost use Prim.Native.Nat.{_≤_, _<_};
+ghost use lib.ListN.{length};
+ghost use Rattle.grid.specs.Grid.{Sheet};
+ghost use Rattle.touch.specs.Slabs.{SlabsFit};
+ghost use Rattle.mesh.specs.Mesh.{triangles};
+ghost use Rattle.marking.specs.Painted.{leftIn, rowOf, layerOf, Ready};
+ghost use Rattle.tally.specs.Pairs.{joins, pairCount, surfaceIn, sizeOf};
+use grid::Axes;
+use grid::Cell;
+use grid::Placement;
+use mesh::Block;
+use mesh::Ends;
+use touch::Slabs;
+
+// The surface cells of a row that thirteen slabs leave.
+fn count_row(labels: &[u8], s: Slabs, r: Axes, e: Ends, j: usize, k: usize) -> usize
+    requires { ⌜ Sheet r (now labels) ⌝ }
+    requires { ⌜ SlabsFit s ⌝ }
+    requires { ⌜ (e .to ≤ r .r0) × (j < r .r1) × (k < r .r2) ⌝ }
+    ensures { λ n. ⌜ n ≡ sizeOf r (surfaceIn r (now (labels .entry)) (leftIn (rowOf e j k) s)) ⌝ }
+{
+    let to = e.to;
+    let mut n = 0usize;
+    let mut i = e.from;
+    while i < to {
+        let c = Cell { i, j, k };
+        i += 1;
+        if labels[grid::number(r, c)] == 8 {
+            if touch::within(s, c) {
+                n += 1;
+            }
+        }
+    }
+    n
+}
+
+fn count_layer(labels: &[u8], s: Slabs, r: Axes, b: Block, k: usize) -> usize
+    requires { ⌜ Sheet r (now labels) ⌝ }
+    requires { ⌜ SlabsFit s ⌝ }
+    requires { ⌜ (b .i .to ≤ r .r0) × (b .j .to ≤ r .r1) × (k < r .r2) ⌝ }
+    ensures { λ n. ⌜ n ≡ sizeOf r (surfaceIn r (now (labels .entry)) (leftIn (layerOf b k) s)) ⌝ }
+{
+    let e = b.i;
+    let to = b.j.to;
+    let mut n = 0usize;
+    let mut j = b.j.from;
+    while j < to {
+        n += count_row(labels, s, r, e, j, k);
+        j += 1;
+    }
+    n
+}
+
+fn count_block(labels: &[u8], s: Slabs, r: Axes, b: Block) -> usize
+    requires { ⌜ Sheet r (now labels) ⌝ }
+    requires { ⌜ SlabsFit s ⌝ }
+    requires { ⌜ (b .i .to ≤ r .r0) × (b .j .to ≤ r .r1) × (b .k .to ≤ r .r2) ⌝ }
+    ensures { λ n. ⌜ n ≡ sizeOf r (surfaceIn r (now (labels .entry)) (leftIn b s)) ⌝ }
+{
+    let to = b.k.to;
+    let mut n = 0usize;
+    let mut k = b.k.from;
+    while k < to {
+        n += count_layer(labels, s, r, b, k);
+        k += 1;
+    }
+    n
+}
+
+// The pairs of triangle t.
+fn count_triangle(labels: &[u8], ps: &[f32], ts: &[u32], r: Axes, at: Placement, t: usize) -> usize
+    requires { ⌜ Sheet r (now labels) ⌝ }
+    requires { ⌜ Ready (now ps) (now ts) r at ⌝ }
+    requires { ⌜ t < triangles (now ts) ⌝ }
+    ensures { λ n. ⌜ n ≡ sizeOf r (joins (now (ps .entry)) (now (ts .entry)) r at (now (labels .entry)) t) ⌝ }
+{
+    let s = marking::sweep_of(ps, ts, r, at, t);
+    count_block(labels, s.slabs, r, s.block)
+}
+
+// The pairs of all triangles.
+pub fn count_pairs(labels: &[u8], ps: &[f32], ts: &[u32], r: Axes, at: Placement) -> u64
+    requires { ⌜ Sheet r (now labels) ⌝ }
+    requires { ⌜ Ready (now ps) (now ts) r at ⌝ }
+    ensures { λ n. ⌜ n ≡ pairCount (now (ps .entry)) (now (ts .entry)) r at (now (labels .entry)) ⌝ }
+{
+    let all = ts.len() / 3;
+    let mut n: u64 = 0;
+    let mut t = 0usize;
+    while t < all {
+        n += count_triangle(labels, ps, ts, r, at, t) as u64;
+        t += 1;
+    }
+    n
+}
