@@ -9,10 +9,13 @@ use Rattle.sizing.specs.Sizing.{spansTo, natural}
 use Rattle.touch.specs.Touch.{dotZ, edge, cross, reach, apart, someApart, touching}
 use Rattle.mesh.specs.Mesh.{wholeParts, partsAt, onAxis, isCandidate}
 use Rattle.marking.specs.Marked.{hits}
+use Rattle.order.specs.Order.{row, rows, slabs, keep, chosen, joinAll}
+use Rattle.listed.specs.Listed.{numbersOf}
+use Rattle.list.specs.List.{recordsFrom}
 use Rattle.samples.specs.Table.{All, table}
 use Rattle.samples.proofs.Filled.{marked-filled, box-flood, box-cavities, cube-flood, cube-cavities}
 use Rattle.samples.proofs.Hatch.{hatch-opened, hatch-closed, centre-refused}
 
 pub samples : All table
-unfolding firstNot someBelow firstOnes bounded spansTo natural ceilOf truncOf nearestOf wholeParts partsAt onAxis isCandidate dotZ edge cross reach apart someApart touching hits lt le eq sub mul div ofInt
-samples = (refl, (refl, (refl, (refl, ((refl, refl), ((refl, refl), (refl, (refl, ((refl, refl), (marked-filled, (box-flood, (box-cavities, (cube-flood, (cube-cavities, (hatch-opened, (hatch-closed, (centre-refused, tt)))))))))))))))))
+unfolding firstNot someBelow firstOnes bounded spansTo natural ceilOf truncOf nearestOf wholeParts partsAt onAxis isCandidate dotZ edge cross reach apart someApart touching hits row rows slabs keep chosen joinAll numbersOf recordsFrom lt le eq sub mul div ofInt
+samples = (refl, (refl, (refl, (refl, ((refl, refl), ((refl, refl), (refl, (refl, ((refl, refl), (marked-filled, ((refl, refl, refl), (box-flood, (box-cavities, (cube-flood, (cube-cavities, (hatch-opened, (hatch-closed, (centre-refused, tt))))))))))))))))))

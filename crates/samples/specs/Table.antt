@@ -15,6 +15,9 @@ use Rattle.grid.specs.Counts.{countOf}
 use Rattle.grid.specs.Grid.{num}
 use Rattle.sizing.specs.Sizing.{Laid, bySize, byResolution}
 use Rattle.marking.specs.Marked.{markAnswer, markLabels}
+use Rattle.list.specs.List.{recordsOf}
+use Rattle.tally.specs.Pairs.{trianglesOf, triangleList}
+use Rattle.pairs.specs.Paired.{pairsAnswer}
 use Rattle.fill.specs.declared.Counts.{Counts}
 use Rattle.fill.specs.declared.Mode.{Mode}
 use Rattle.fill.specs.declared.Mode.the-variants.{Flood, Cavities}
@@ -30,6 +33,7 @@ pub data Sample : Type 0 where
   marking : List Float → List ℕ → Laid → List ℕ → List ℕ → Sample
   filling : Axes → Mode → List ℕ → Counts → List ℕ → ℕ → ℕ → Sample
   editing : Axes → Edit → List ℕ → Outcome ℕ → List ℕ → Sample
+  listing : List Float → List ℕ → Laid → List ℕ → ℕ → ℕ → List ℕ → List ℕ → Sample
 
 abbrev pub Holds : Sample → Type 0
 Holds (by-size ps size o) = bySize ps size ≡ o
@@ -40,6 +44,11 @@ Holds (marking ps ts l before after) = (markAnswer ps ts (l .axes) (l .placement
 Holds (filling r mode before n after outside inside) =
     Ends (fillFault r before) before (Fills mode r before) (answers n) after × (countOf 6 after ≡ outside) × (countOf 7 after ≡ inside)
 Holds (editing r e before o after) = Call r e before o after
+-- the answer is that of outputs of exactly these lengths
+Holds (listing ps ts l labels cells pairs records list) =
+    (pairsAnswer ps ts (l .axes) (l .placement) labels records list ≡ answers (record { cells = cells; pairs = pairs }))
+    × (recordsOf (l .axes) labels (trianglesOf ps ts (l .axes) (l .placement) labels) ≡ records)
+    × (triangleList ps ts (l .axes) (l .placement) labels ≡ list)
 
 abbrev pub All : List Sample → Type 0
 All [] = Unit
@@ -82,6 +91,10 @@ threePoints = f 0 ∷ f 0 ∷ f 0 ∷ two ∷ two ∷ two ∷ part 1 0 ∷ f 0 �
 abbrev pub twoTriangles : List ℕ
 twoTriangles = 2 ∷ 2 ∷ 2 ∷ 0 ∷ 0 ∷ 0 ∷ []
 
+-- the records of two surface cells: cell, 1 for surface, range
+abbrev pub twoRecords : List ℕ
+twoRecords = 0 ∷ 0 ∷ 0 ∷ 1 ∷ 0 ∷ 2 ∷ 1 ∷ 0 ∷ 0 ∷ 1 ∷ 2 ∷ 3 ∷ []
+
 -- scans, and cells left
 abbrev pub counts : ℕ → ℕ → Counts
 counts scans left = record { scans = scans; left = left }
@@ -122,6 +135,7 @@ cell i j k = record { i = i; j = j; k = k }
 -- "Axes 3, 3, 3: cell (1, 2, 0) is number 7."
 -- "Points (0,0,0), (2,2,2), (0.5,0,0); triangles (2,2,2), (0,0,0); size 1": of the list that 01 gives, the cells that are surface, (0,0,0) and (1,0,0), which have the numbers 0 and 1
 -- that map filled: `outside 25`, `inside 0`, `left 0`, `scans 2`
+-- and listed: "The list is whole: (0,0,0) surface 0..2; (1,0,0) surface 2..3; triangles 0, 1, 0."
 -- "3 by 3 by 3, all but the centre marked: flood makes the centre 7 in 1 scan; cavities leave it 0, left 1, 2 scans."
 -- "5 by 5 by 5, the 26 cells about the centre marked: 98 Outside, 1 Inside, 2 scans; with cavities the same labels, 5 scans."
 -- "That map: open (1,2,2), 2 changed; close it, 2 changed and the map is back. Opening the centre: 13."
@@ -137,6 +151,7 @@ table =
     ∷ by-size threePoints (f 1) (laid (axes 3 3 3) (f 1) (f 1))
     ∷ marking threePoints twoTriangles (lies (axes 3 3 3) (f 1) (f 1)) (replicate 27 7) (8 ∷ 8 ∷ replicate 25 0)
     ∷ filling (axes 3 3 3) Flood (8 ∷ 8 ∷ replicate 25 0) (counts 2 0) (8 ∷ 8 ∷ replicate 25 6) 25 0
+    ∷ listing threePoints twoTriangles (lies (axes 3 3 3) (f 1) (f 1)) (8 ∷ 8 ∷ replicate 25 6) 2 3 twoRecords (0 ∷ 1 ∷ 0 ∷ [])
     ∷ filling (axes 3 3 3) Flood (box 8 0) (counts 1 0) (box 8 7) 0 1
     ∷ filling (axes 3 3 3) Cavities (box 8 0) (counts 2 1) (box 8 0) 0 0
     ∷ filling (axes 5 5 5) Flood (cube 0 8 0) (counts 2 0) (cube 6 8 7) 98 1

@@ -10,6 +10,8 @@ use grid::Axes;
 use grid::Cell;
 use grid::Checked;
 use grid::Placement;
+use list::Listing;
+use listed::Listed;
 use marking::Marking;
 use numbers::Whole;
 
@@ -58,24 +60,40 @@ fn rounding(t: f32) {
     replay::text(b"\n");
 }
 
-// The surface cells of three points and two triangles, each a single point.
-fn marks() {
-    let points: [f32; 9] = [0.0, 0.0, 0.0, 2.0, 2.0, 2.0, 0.5, 0.0, 0.0];
-    let triangles: [u32; 6] = [2, 2, 2, 0, 0, 0];
-    let r = Axes {
+fn three_points() -> [f32; 9] {
+    [0.0, 0.0, 0.0, 2.0, 2.0, 2.0, 0.5, 0.0, 0.0]
+}
+
+// Each a single point.
+fn two_triangles() -> [u32; 6] {
+    [2, 2, 2, 0, 0, 0]
+}
+
+fn three_axes() -> Axes {
+    Axes {
         r0: 3,
         r1: 3,
         r2: 3,
-    };
-    let at = Placement {
+    }
+}
+
+// At the origin, with cells of size 1.
+fn placement() -> Placement {
+    Placement {
         x: 0.0,
         y: 0.0,
         z: 0.0,
         scale: 1.0,
         reciprocal: 1.0,
-    };
+    }
+}
+
+// The surface cells of three points and two triangles.
+fn marks() {
+    let points = three_points();
+    let triangles = two_triangles();
     let mut labels = [7u8; 27];
-    match marking::mark(&points, &triangles, r, at, &mut labels) {
+    match marking::mark(&points, &triangles, three_axes(), placement(), &mut labels) {
         Marking::Refused(f) => replay::checked(Checked::Fault(f)),
         Marking::Marked => show(&labels, 9),
     }
@@ -98,29 +116,94 @@ fn fill_and_show(labels: &mut [u8], r: Axes, mode: Mode, layer: usize)
     }
 }
 
-// The map of `marks`, two cells of 3 by 3 by 3.
+// What a list answers: how many cells and pairs are listed.
+fn show_listing(a: Listing) {
+    match a {
+        Listing::Refused(f) => replay::checked(Checked::Fault(f)),
+        Listing::Listed(n) => {
+            replay::number(n.cells as u64);
+            replay::number(n.pairs as u64);
+            replay::text(b"\n");
+        }
+    }
+}
+
+// An output, or a part of one, on a line.
+fn show_words(words: &[u32]) {
+    let mut n = 0usize;
+    while n < words.len() {
+        replay::number(words[n] as u64);
+        n += 1;
+    }
+    replay::text(b"\n");
+}
+
+// An output with room for three records, one to a line.
+fn show_records(records: [u32; 18]) {
+    show_words(&records[0..6]);
+    show_words(&records[6..12]);
+    show_words(&records[12..18]);
+}
+
+// The triangles of a listed cell.
+fn show_part(list: &[u32], e: Listed) {
+    show_words(listed::part(list, e.start, e.end));
+}
+
+// Lists a map and shows the answer and the whole output, which was 9 before: past the answer it stays.
+fn list_without_pairs(labels: &[u8]) {
+    let mut records = [9u32; 18];
+    let a = list::list_cells(labels, three_axes(), &mut records);
+    show_listing(a);
+    show_records(records);
+}
+
+// The same with pairs, over the points and triangles of `marks`; answers the records.
+fn list_with_pairs(labels: &[u8], list: &mut [u32]) -> [u32; 18] {
+    let points = three_points();
+    let triangles = two_triangles();
+    let mut records = [9u32; 18];
+    let a = pairs::list_pairs(
+        &points,
+        &triangles,
+        three_axes(),
+        placement(),
+        labels,
+        &mut records,
+        list,
+    );
+    show_listing(a);
+    show_records(records);
+    show_words(list);
+    records
+}
+
+// The list of a map without pairs; with pairs, and each record's triangles; and with an output of triangle
+// numbers that is one too short.
+fn lists(labels: &[u8]) {
+    list_without_pairs(labels);
+    let mut list = [9u32; 5];
+    let records = list_with_pairs(labels, &mut list);
+    show_part(&list, listed::read(&records, 0));
+    show_part(&list, listed::read(&records, 1));
+    let mut short = [9u32; 2];
+    list_with_pairs(labels, &mut short);
+}
+
+// The map of `marks`, two cells of 3 by 3 by 3, and its list.
 fn two_cells(mode: Mode) {
     let mut labels = [0u8; 27];
     labels[0] = 8;
     labels[1] = 8;
-    let r = Axes {
-        r0: 3,
-        r1: 3,
-        r2: 3,
-    };
-    fill_and_show(&mut labels, r, mode, 9);
+    fill_and_show(&mut labels, three_axes(), mode, 9);
+    lists(&labels);
 }
 
 // 3 by 3 by 3, all but the centre marked.
 fn three(mode: Mode) {
     let mut labels = [8u8; 27];
     labels[13] = 0;
-    let r = Axes {
-        r0: 3,
-        r1: 3,
-        r2: 3,
-    };
-    fill_and_show(&mut labels, r, mode, 9);
+    fill_and_show(&mut labels, three_axes(), mode, 9);
 }
 
 // Whether a place on an axis of 5 is neither first nor last.
