@@ -3,22 +3,21 @@ use mathlib.Core.Path.{_≡_, ap, _∙_}
 use mathlib.Core.List.{List}
 use Prim.Native.Nat.{ℕ, _*_, _≤_}
 use native.Mathlib.Omega.{arith}
-use lib.Dec.{ltb}
 use lib.ListN.{length}
 use lib.Ieee.{Float, nan}
-use borrow.Author.Tests.{ltb-false}
 use Rattle.grid.specs.declared.Axes.{Axes}
 use Rattle.grid.specs.declared.Placement.{Placement}
 use Rattle.grid.specs.declared.Refusal.{Refusal}
 use Rattle.grid.specs.declared.Checked.{Checked}
 use Rattle.grid.specs.declared.Checked.the-variants.{Fine, Fault}
-use Rattle.grid.specs.Answers.{answers, unless, lentAfter}
+use Rattle.grid.specs.Answers.{answers}
 use Rattle.grid.specs.Grid.{Sheet}
 use Rattle.grid.specs.Checks.{gridFault}
-use Rattle.grid.proofs.Checks.{passed, both-fine, sheet-fine}
+use Rattle.grid.proofs.Checks.{both-fine, sheet-fine}
 use Rattle.mesh.specs.Faults.{originFault, lentFault}
 use Rattle.order.specs.Output.{roomFault, over, Written}
-use Rattle.order.proofs.Outputs.{written-over}
+use Rattle.order.proofs.Lent.{refused-answer, refused-lent, fine-answer, fine-lent}
+use Rattle.order.proofs.Outputs.{written-over, room-fine}
 use Rattle.boxes.specs.declared.Boxing.the-variants.{Boxed, Refused}
 use Rattle.boxes.specs.Boxes.{outcome, boxCells, boxCount, boxPoints, boxTriangles, boxesFault, roomsFault, allFault}
 use Rattle.boxes.proofs.Laws.{Meets, points-length, triangles-length}
@@ -36,29 +35,30 @@ sheet-left l r p label h =
 pub room-left : (n p t : ℕ) → roomsFault n p t ≡ Fine → (24 * n ≤ p) × (36 * n ≤ t)
 room-left n p t h =
     let both = both-fine (roomFault p (24 * n)) (roomFault t (36 * n)) h in
-    (ltb-false p (24 * n) (passed (ltb p (24 * n)) 14 0 Fine (both .0) .0), ltb-false t (36 * n) (passed (ltb t (36 * n)) 14 0 Fine (both .1) .0))
+    (room-fine p (24 * n) (both .0), room-fine t (36 * n) (both .1))
 
 -- ---- the two ways of a call
 
 module _ (l : List ℕ) (r : Axes) (p : Placement) (label : ℕ) (ps : List Float) (ts : List ℕ) where
-  -- what the checks find decides it
-  found-fault : (f : Checked) → f ≡ allFault l r p label (length ps) (length ts)
-      → Meets l r p label ps ts (unless f (answers (boxCount l r label))) (lentAfter f ps (over (boxPoints p (boxCells r l label)) ps)) (lentAfter f ts (over (boxTriangles 0 (boxCount l r label)) ts))
-  found-fault f e = (
-    ap (λ (x : Checked). unless x (answers (boxCount l r label))) e,
-    (ap (λ (x : Checked). lentAfter x ps (over (boxPoints p (boxCells r l label)) ps)) e, ap (λ (x : Checked). lentAfter x ts (over (boxTriangles 0 (boxCount l r label)) ts)) e),
+  -- all checks, and what is written
+  abbrev checks : Checked
+  checks = allFault l r p label (length ps) (length ts)
+
+  abbrev points : List Float
+  points = boxPoints p (boxCells r l label)
+
+  abbrev triangles : List ℕ
+  triangles = boxTriangles 0 (boxCount l r label)
+
+  pub refused-meets : (f : Refusal) → Fault f ≡ checks → Meets l r p label ps ts (outcome (Refused f)) ps ts
+  refused-meets f e = (refused-answer checks f (answers (boxCount l r label)) e, (refused-lent checks f ps (over points ps) e, refused-lent checks f ts (over triangles ts) e))
+
+  pub boxed-meets : (n : ℕ) (ps' : List Float) (ts' : List ℕ) → checks ≡ Fine → n ≡ boxCount l r label → (24 * n ≤ length ps) × (36 * n ≤ length ts)
+      → Written nan 0 points ps ps' × Written 0 0 triangles ts ts' → Meets l r p label ps ts (outcome (Boxed n)) ps' ts'
+  boxed-meets n ps' ts' e is h w = (
+    ap answers is ∙ fine-answer checks (answers (boxCount l r label)) e,
+    (
+      written-over nan points ps ps' (omega (arith, points-length p (boxCells r l label), h .0)) (w .0) ∙ fine-lent checks ps (over points ps) e,
+      written-over 0 triangles ts ts' (omega (arith, triangles-length 0 (boxCount l r label), h .1)) (w .1) ∙ fine-lent checks ts (over triangles ts) e,
+    ),
   )
-
-  pub refused-meets : (f : Refusal) → Fault f ≡ allFault l r p label (length ps) (length ts) → Meets l r p label ps ts (outcome (Refused f)) ps ts
-  refused-meets f e = found-fault (Fault f) e
-
-  pub boxed-meets : (n : ℕ) (ps' : List Float) (ts' : List ℕ) → Fine ≡ allFault l r p label (length ps) (length ts) → n ≡ boxCount l r label → (24 * n ≤ length ps) × (36 * n ≤ length ts)
-      → Written nan 0 (boxPoints p (boxCells r l label)) ps ps' × Written 0 0 (boxTriangles 0 (boxCount l r label)) ts ts' → Meets l r p label ps ts (outcome (Boxed n)) ps' ts'
-  boxed-meets n ps' ts' e is h w =
-      let all = found-fault Fine e in (
-        ap answers is ∙ all .0,
-        (
-          written-over nan (boxPoints p (boxCells r l label)) ps ps' (omega (arith, points-length p (boxCells r l label), h .0)) (w .0) ∙ all .1 .0,
-          written-over 0 (boxTriangles 0 (boxCount l r label)) ts ts' (omega (arith, triangles-length 0 (boxCount l r label), h .1)) (w .1) ∙ all .1 .1,
-        ),
-      )

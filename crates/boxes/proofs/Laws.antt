@@ -12,9 +12,8 @@ use lib.Ieee.{Float, nan, fin, binary32, le, eq, div}
 use Rattle.grid.specs.declared.Axes.{Axes}
 use Rattle.grid.specs.declared.Cell.{Cell}
 use Rattle.grid.specs.declared.Placement.{Placement}
-use Rattle.grid.specs.declared.Checked.{Checked}
-use Rattle.grid.specs.declared.Checked.the-variants.{Fine, Fault}
-use Rattle.grid.specs.Answers.{Outcome, answers, refuses, Finds, Gives, unless, lentAfter}
+use Rattle.grid.specs.declared.Checked.the-variants.{Fine}
+use Rattle.grid.specs.Answers.{Outcome, answers, refuses, Finds, Gives}
 use Rattle.grid.specs.Counts.{countOf}
 use Rattle.grid.specs.Grid.{cells}
 use Rattle.grid.specs.Checks.{gridFault, takes}
@@ -23,12 +22,14 @@ use Rattle.sizing.specs.Points.{bounded}
 use Rattle.mesh.specs.Faults.{originFault, leastScale, greatestScale, lentFault}
 use Rattle.order.specs.Order.{knownLabels}
 use Rattle.order.specs.Output.{roomFault, over}
-use Rattle.order.proofs.Outputs.{append-left}
+use Rattle.order.proofs.Lists.{join-length}
+use Rattle.order.proofs.Outputs as outputs
+use Rattle.order.proofs.Outputs.{append-left, finds-room}
 use Rattle.order.proofs.Sums.{kept-count}
 use Rattle.boxes.specs.declared.Boxing.{Boxing}
 use Rattle.boxes.specs.declared.Boxing.the-variants.{Boxed, Refused}
 use Rattle.boxes.specs.Boxes.{outcome, corners, cornerOf, cellCorners, faces, faceOf, cellTriangles, boxCells, boxCount, boxPoints, boxTriangles, askedFault, boxesFault, roomsFault, allFault, boxesAnswer, pointsBuffer, trianglesBuffer}
-use Rattle.boxes.proofs.Rows.{join-length, join-at}
+use Rattle.boxes.proofs.Rows.{join-at}
 use Rattle.boxes.proofs.Tables.{eight-corners, twelve-faces, corner-row, face-row, face-corner, corner-length, face-length}
 
 -- ---- the tables
@@ -139,20 +140,14 @@ module _ (l : List ℕ) (r : Axes) (p : Placement) (label : ℕ) (ps : List Floa
           (finds-then ns (askedFault label) _ (finds-if ns (ltb 8 label) 11 0 Fine tt tt)
           (finds-first ns 11 (λ n. n) (takes knownLabels) l tt))))
 
-      room : (len need : ℕ) → Finds ns (roomFault len need)
-      room len need = finds-if ns (ltb len need) 14 0 Fine tt tt
-
       rooms : Finds ns (roomsFault (boxCount l r label) (length ps) (length ts))
-      rooms = finds-then ns (roomFault (length ps) (24 * boxCount l r label)) _ (room (length ps) (24 * boxCount l r label)) (room (length ts) (36 * boxCount l r label))
+      rooms = finds-then ns (roomFault (length ps) (24 * boxCount l r label)) _ (finds-room ns (length ps) (24 * boxCount l r label) tt) (finds-room ns (length ts) (36 * boxCount l r label) tt)
 
   -- a refusal leaves both outputs
   pub refused-same : (n k : ℕ) → boxesAnswer l r p label ps ts ≡ refuses n k → (pointsBuffer l r p label ps ts ≡ ps) × (trianglesBuffer l r p label ps ts ≡ ts)
-  refused-same n k h = go (allFault l r p label (length ps) (length ts)) h
-    where
-      go : (f : Checked) → unless f (answers (boxCount l r label)) ≡ refuses n k
-          → (lentAfter f ps (over (boxPoints p (boxCells r l label)) ps) ≡ ps) × (lentAfter f ts (over (boxTriangles 0 (boxCount l r label)) ts) ≡ ts)
-      go (Fault f) e = (refl, refl)
-      go Fine e = absurd (let z : _≡_ {A = ℕ} 0 1 = cc in omega arith)
+  refused-same n k h =
+      let f = allFault l r p label (length ps) (length ts) in
+      (outputs.refused-same f (boxCount l r label) n k ps (over (boxPoints p (boxCells r l label)) ps) h, outputs.refused-same f (boxCount l r label) n k ts (over (boxTriangles 0 (boxCount l r label)) ts) h)
 
   -- two results that meet it are one
   pub settled : (a b : Boxing) (ps' ps'' : List Float) (ts' ts'' : List ℕ) → Meets l r p label ps ts (outcome a) ps' ts' → Meets l r p label ps ts (outcome b) ps'' ts'' → (a ≡ b) × (ps' ≡ ps'') × (ts' ≡ ts'')

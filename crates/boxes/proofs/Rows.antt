@@ -1,25 +1,20 @@
--- Lists that are joined of rows of the same length: their length, their elements, and what a loop that writes one row after the other goes by. Assumes nothing.
-use mathlib.Core.Path.{_≡_, refl, sym, ap, subst, _∙_}
-use mathlib.Core.List.{List, [], _∷_, _++_, append-assoc, append-nil}
+-- Lists that are joined of rows of the same length: their elements, and what a loop that writes one row after the other goes by. Assumes nothing.
+use mathlib.Core.Path.{_≡_, sym, ap, subst, _∙_}
+use mathlib.Core.List.{List, [], _∷_, _++_}
 use Prim.Native.Nat.{ℕ, zero, suc, _+_, _*_, _≤_, _<_}
 use native.Mathlib.Nat.{mul-suc}
 use native.Mathlib.Numerals.{add-one}
 use native.Mathlib.Omega.{arith}
-use lib.ListN.{length, getD, set, take, length-append}
+use lib.ListN.{length, getD, take}
 use lib.Seq.{take-suc, take-all, length-take-le, getD-append-add}
 use Rattle.order.specs.Order.{joinAll}
 use Rattle.order.specs.Output.{Written}
-use Rattle.order.proofs.Outputs.{written-none, written-one, written-then, written-more, append-left}
+use Rattle.order.proofs.Lists.{join-append, join-one, join-length}
+use Rattle.order.proofs.Outputs.{written-none, written-then, append-left}
 
-module _ {A : Type 0} (d : A) (at : ℕ) where
-  -- the same list, as another says it
-  pub written-as : (xs ys o m : List A) → xs ≡ ys → Written d at xs o m → Written d at ys o m
-  written-as xs ys o m e a = subst (λ (l : List A). Written d at l o m) e a
-
-  -- three elements, one store each
-  pub written-three : (x y z : A) (o : List A) → at + 3 ≤ length o → Written d at (x ∷ y ∷ z ∷ []) o (set (set (set o at x) (at + 1) y) (at + 2) z)
-  written-three x y z o h =
-      written-more d at z (x ∷ y ∷ []) o _ (written-more d at y (x ∷ []) o _ (written-one d at x o (omega arith)) (omega arith)) (omega arith)
+-- the same list, as another says it
+pub written-as : {A : Type 0} (d : A) (at : ℕ) (xs ys o m : List A) → xs ≡ ys → Written d at xs o m → Written d at ys o m
+written-as {A} d at xs ys o m e a = subst (λ (l : List A). Written d at l o m) e a
 
 -- a loop that has written the rows before n, from a place on
 pub record Through {A B : Type 0} (f : B → List A) (d : A) (at : ℕ) (rows : List B) (o m : List A) (n : ℕ) : Type 0 where
@@ -27,15 +22,6 @@ pub record Through {A B : Type 0} (f : B → List A) (d : A) (at : ℕ) (rows : 
   pub so-far : Written d at (joinAll f (take n rows)) o m
 
 module _ {A B : Type 0} (f : B → List A) where
-  pub join-append : (xs ys : List B) → joinAll f (xs ++ ys) ≡ joinAll f xs ++ joinAll f ys
-  unfolding joinAll
-  join-append [] ys = refl
-  join-append (x ∷ xs) ys = ap (λ (l : List A). f x ++ l) (join-append xs ys) ∙ sym (append-assoc (f x) (joinAll f xs) (joinAll f ys))
-
-  join-one : (x : B) → joinAll f (x ∷ []) ≡ f x
-  unfolding joinAll
-  join-one x = append-nil (f x)
-
   pub through-none : (d : A) (at : ℕ) (rows : List B) (o : List A) → Through f d at rows o o 0
   unfolding joinAll
   through-none d at rows o = record { within = omega arith; so-far = written-none d at o }
@@ -45,11 +31,6 @@ module _ {A B : Type 0} (f : B → List A) where
 
   -- rows of k elements
   module _ (k : ℕ) (each : (x : B) → length (f x) ≡ k) where
-    pub join-length : (xs : List B) → length (joinAll f xs) ≡ k * length xs
-    unfolding joinAll
-    join-length [] = omega arith
-    join-length (x ∷ xs) = omega (arith, length-append (f x) (joinAll f xs), each x, join-length xs, mul-suc k (length xs))
-
     -- element i of row b
     pub join-at : (d : A) (e : B) (xs : List B) (b i : ℕ) → b < length xs → i < k → getD (joinAll f xs) (k * b + i) d ≡ getD (f (getD xs b e)) i d
     unfolding joinAll
@@ -64,8 +45,8 @@ module _ {A B : Type 0} (f : B → List A) where
     -- one row more
     pub written-row : (d : A) (at : ℕ) (xs : List B) (x : B) (o m p : List A) → Written d at (joinAll f xs) o m → Written d (at + k * length xs) (f x) m p → Written d at (joinAll f (xs ++ (x ∷ []))) o p
     written-row d at xs x o m p a b =
-        written-as d at _ _ o p (sym (join-append xs (x ∷ []) ∙ ap (λ (l : List A). joinAll f xs ++ l) (join-one x)))
-        (written-then d at (joinAll f xs) (f x) o m p a (subst (λ (n : ℕ). Written d (at + n) (f x) m p) (sym (join-length xs)) b))
+        written-as d at _ _ o p (sym (join-append f xs (x ∷ []) ∙ ap (λ (l : List A). joinAll f xs ++ l) (join-one f x)))
+        (written-then d at (joinAll f xs) (f x) o m p a (subst (λ (n : ℕ). Written d (at + n) (f x) m p) (sym (join-length f k each xs)) b))
 
     pub through-more : (d : A) (at : ℕ) (e : B) (rows : List B) (o m p : List A) (n : ℕ) → Through f d at rows o m n → n < length rows
         → Written d (at + k * n) (f (getD rows n e)) m p → Through f d at rows o p (n + 1)

@@ -114,12 +114,12 @@ by-cell r a b p q h =
 
 -- ---- the labels that a rule gives
 
-ones-length : (n : ℕ) (f : ℕ → ℕ) → length (firstOnes n f) ≡ n
+pub ones-length : (n : ℕ) (f : ℕ → ℕ) → length (firstOnes n f) ≡ n
 unfolding firstOnes
 ones-length zero f = refl
 ones-length (suc n) f = ap suc (ones-length n (λ k. f (suc k)))
 
-ones-at : (n : ℕ) (f : ℕ → ℕ) (k : ℕ) → k < n → getD (firstOnes n f) k 0 ≡ f k
+pub ones-at : (n : ℕ) (f : ℕ → ℕ) (k : ℕ) → k < n → getD (firstOnes n f) k 0 ≡ f k
 unfolding firstOnes
 ones-at zero f k h = absurd (omega arith)
 ones-at (suc n) f zero h = refl

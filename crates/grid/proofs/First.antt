@@ -157,6 +157,15 @@ or-last : (a : Bool) → (a || true) ≡ true
 or-last true = refl
 or-last false = refl
 
+-- none below 0, and one number more
+pub some-none : (ok : ℕ → Bool) → someBelow 0 ok ≡ false
+unfolding someBelow
+some-none ok = refl
+
+pub some-more : (n : ℕ) (ok : ℕ → Bool) → someBelow (n + 1) ok ≡ (someBelow n ok || ok n)
+unfolding someBelow
+some-more n ok = ap (λ (k : ℕ). someBelow k ok) (add-one n)
+
 module _ (ok : ℕ → Bool) where
   found : (n : ℕ) → someBelow n ok ≡ true → (k : ℕ) × (k < n) × (ok k ≡ true)
   unfolding someBelow

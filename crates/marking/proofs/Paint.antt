@@ -4,7 +4,6 @@ use mathlib.Core.Logic.{_⊎_, inl, inr, ⊎-elim}
 use mathlib.Core.Path.{_≡_, refl, sym, ap, _∙_}
 use mathlib.Core.List.{List}
 use Prim.Native.Nat.{ℕ, _+_, _≤_, _<_}
-use native.Mathlib.Numerals.{add-one}
 use native.Mathlib.Omega.{arith}
 use lib.Dec.{leb, ltb}
 use lib.IntN.{ℤ}
@@ -12,7 +11,6 @@ use lib.ListN.{set, length-set}
 use borrow.Author.Tests.{le-leb, lt-leb, lt-ltb, le-ltb, leb-true, ltb-true}
 use Rattle.grid.specs.declared.Axes.{Axes}
 use Rattle.grid.specs.declared.Cell.{Cell}
-use Rattle.grid.specs.First.{someBelow}
 use Rattle.grid.specs.Grid.{InGrid, num, at, Sheet}
 use Rattle.grid.proofs.First.{le-or-lt}
 use Rattle.grid.proofs.Cells.{cell-path, sheet-kept, stored}
@@ -270,12 +268,3 @@ module _ (r : Axes) (e : Ends) where
 pub left-hits : (t : List (List ℤ)) (r : Axes) (b : Block) (s : Slabs) → BlockOf t r b → s ≡ slabsOf t → (c : Cell) → leftIn b s c ≡ (isCandidate t r c && touching t c)
 left-hits t r b s w e c =
     ap (λ (x : Bool). x && keptAll s c) (block-test t r b w c) ∙ ap (λ (x : Bool). isCandidate t r c && x) (ap (λ (x : Slabs). keptAll x c) e ∙ slabs-touch t c)
-
--- ---- triangle after triangle
-pub some-none : (f : ℕ → Bool) → someBelow 0 f ≡ false
-unfolding someBelow
-some-none f = refl
-
-pub some-more : (n : ℕ) (f : ℕ → Bool) → someBelow (n + 1) f ≡ (someBelow n f || f n)
-unfolding someBelow
-some-more n f = ap (λ (k : ℕ). someBelow k f) (add-one n)

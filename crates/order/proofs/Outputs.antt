@@ -4,16 +4,16 @@ use mathlib.Core.Path.{_≡_, refl, sym, ap, _∙_}
 use mathlib.Core.List.{List, [], _∷_, _++_}
 use Prim.Native.Nat.{ℕ, _+_, _-_, _≤_, _<_}
 use native.Mathlib.Omega.{arith}
-use lib.Dec.{ltb}
+use lib.Dec.{T, ltb}
 use lib.ListN.{length, getD, drop, set, length-append, length-drop, length-set, List·getD-append}
 use lib.Seq.{getD-set-same, getD-set-other, getD-append-add, getD-drop, ext-getD}
 use borrow.Author.Tests.{ltb-false}
 use Rattle.grid.specs.declared.Checked.{Checked}
 use Rattle.grid.specs.declared.Checked.the-variants.{Fine, Fault}
 use Rattle.grid.specs.declared.Refusal.{Refusal}
-use Rattle.grid.specs.Answers.{answers, refuses, _andThen_, unless, lentAfter}
+use Rattle.grid.specs.Answers.{answers, refuses, _andThen_, unless, lentAfter, isOneOf, Finds}
 use Rattle.grid.proofs.First.{le-or-lt}
-use Rattle.grid.proofs.Checks.{passed}
+use Rattle.grid.proofs.Checks.{passed, finds-if}
 use Rattle.order.specs.Output.{roomFault, over, Written}
 
 -- an element of one list after another
@@ -106,7 +106,11 @@ then-first a b f e = ap (λ (x : Checked). x andThen b) e
 pub then-next : (a b : Checked) → a ≡ Fine → b ≡ (a andThen b)
 then-next a b e = sym (ap (λ (x : Checked). x andThen b) e)
 
--- a check of room that found nothing
+-- the one number that a check of room finds
+pub finds-room : (ns : List ℕ) (len need : ℕ) → T (isOneOf 14 ns) → Finds ns (roomFault len need)
+finds-room ns len need h = finds-if ns (ltb len need) 14 0 Fine h tt
+
+-- and one that found nothing
 pub room-fine : (len need : ℕ) → roomFault len need ≡ Fine → need ≤ len
 room-fine len need h = ltb-false len need (passed (ltb len need) 14 0 Fine h .0)
 

@@ -1,9 +1,9 @@
 -- What the contract of `list_pairs` says: its numbers, that a refusal leaves every number, that two results coincide, and that a record's range is its cell's part of the list. Assumes nothing.
-use mathlib.Core.Path.{_≡_, sym, _∙_}
-use mathlib.Core.List.{List, [], _∷_}
-use Prim.Native.Nat.{ℕ, _*_, _≤_}
+use mathlib.Core.Path.{_≡_, sym, _∙_, refl, ap}
+use mathlib.Core.List.{List, [], _∷_, _++_}
+use Prim.Native.Nat.{ℕ, _*_, _≤_, suc, _-_, _+_, _<_}
 use lib.Dec.{ltb}
-use lib.ListN.{length}
+use lib.ListN.{length, getD, take, drop, length-append}
 use lib.Ieee.{Float}
 use borrow.Author.Tests.{ltb-false}
 use Rattle.grid.specs.declared.Axes.{Axes}
@@ -11,21 +11,28 @@ use Rattle.grid.specs.declared.Checked.the-variants.{Fine}
 use Rattle.grid.specs.declared.Placement.{Placement}
 use Rattle.grid.specs.Answers.{answers, refuses, Finds, Gives}
 use Rattle.grid.specs.Checks.{labelsFault, takes}
-use Rattle.grid.specs.Grid.{Sheet}
+use Rattle.grid.specs.Grid.{Sheet, at}
 use Rattle.grid.proofs.Checks.{passed, both-fine, finds-if, finds-then, finds-first, gives-unless}
 use Rattle.mesh.specs.Faults.{meshFault}
 use Rattle.marking.specs.Painted.{Ready}
 use Rattle.marking.proofs.Laws.{ready, mesh-finds}
-use Rattle.order.specs.Order.{knownLabels}
+use Rattle.order.specs.Order.{knownLabels, joinAll}
 use Rattle.order.specs.Output.{roomFault, over}
 use Rattle.order.proofs.Outputs.{room-fine}
 use Rattle.order.proofs.Outputs as outputs
-use Rattle.listed.specs.Listed.{width}
+use Rattle.listed.specs.Listed.{width, recordAt, partOf}
 use Rattle.list.specs.declared.Listing.{Listing}
-use Rattle.list.specs.List.{outcome, listed, recordsOf}
+use Rattle.list.specs.List.{outcome, listed, recordsOf, flagOf}
 use Rattle.list.proofs.Laws.{outcome-one}
 use Rattle.tally.specs.Pairs.{trianglesOf, triangleList, pairCount}
 use Rattle.pairs.specs.Paired.{inputFault, manyFault, roomsFault, pairsFault, countsOf, pairsAnswer, recordsBuffer, trianglesBuffer}
+use native.Mathlib.Omega.{arith}
+use lib.Seq.{split-at, drop-append-seam, take-append-seam}
+use Rattle.grid.specs.declared.Cell.{Cell}
+use Rattle.order.proofs.Lists.{join-append}
+use Rattle.listed.specs.declared.Listed.{Listed}
+use Rattle.listed.proofs.Records.{listed-path, part-good}
+use Rattle.list.proofs.Rows.{row-read}
 
 -- ---- what the checks leave
 
@@ -72,3 +79,43 @@ module _ (ps : List Float) (ts : List ℕ) (r : Axes) (p : Placement) (l o q : L
       → m ≡ recordsBuffer ps ts r p l o q → n ≡ recordsBuffer ps ts r p l o q → x ≡ trianglesBuffer ps ts r p l o q → y ≡ trianglesBuffer ps ts r p l o q
       → (a ≡ b) × (m ≡ n) × (x ≡ y)
   settled a b m n x y e f g h u v = (outcome-one a b (e ∙ sym f), g ∙ sym h, u ∙ sym v)
+
+-- ---- the part of the list that a record names is its cell's triangles, and no other
+
+module _ (ps : List Float) (ts : List ℕ) (r : Axes) (p : Placement) (l : List ℕ) (n : ℕ) (h : n < length (listed r l)) (d : Cell) where
+  abbrev own : Cell → List ℕ
+  own = trianglesOf ps ts r p l
+
+  abbrev here : Listed
+  here = recordAt (recordsOf r l own) n
+
+  before : ℕ
+  before = length (joinAll own (take n (listed r l)))
+
+  record-is : here ≡ record { cell = getD (listed r l) n d; surface = flagOf (at r l (getD (listed r l) n d)); start = before; end = before + length (own (getD (listed r l) n d)) }
+  unfolding before
+  record-is =
+      row-read r l own d 0 (listed r l) n h
+      ∙ listed-path _ _ refl refl (let e : 0 + length (joinAll own (take n (listed r l))) ≡ length (joinAll own (take n (listed r l))) = omega arith in e)
+      (let e : 0 + length (joinAll own (take n (listed r l))) + length (own (getD (listed r l) n d)) ≡ length (joinAll own (take n (listed r l))) + length (own (getD (listed r l) n d)) = omega arith in e)
+
+  -- the whole list around it
+  around : triangleList ps ts r p l ≡ joinAll own (take n (listed r l)) ++ (own (getD (listed r l) n d) ++ joinAll own (drop (suc n) (listed r l)))
+  unfolding joinAll
+  around = ap (joinAll own) (split-at (listed r l) n d h) ∙ join-append own (take n (listed r l)) (getD (listed r l) n d ∷ drop (suc n) (listed r l))
+
+  pub range-part : (here .cell ≡ getD (listed r l) n d) × (partOf (triangleList ps ts r p l) (here .start) (here .end) ≡ own (getD (listed r l) n d))
+  unfolding before
+  range-part =
+      let mine = own (getD (listed r l) n d) in
+      let rest = joinAll own (drop (suc n) (listed r l)) in
+      let front = joinAll own (take n (listed r l)) in
+      let size = ap (λ (xs : List ℕ). length xs) around ∙ length-append front (mine ++ rest) in (
+        ap (λ (e : Listed). e .cell) record-is,
+        (λ i. partOf (triangleList ps ts r p l) (record-is i .start) (record-is i .end))
+            ∙ part-good (triangleList ps ts r p l) (length front) (length front + length mine) (omega arith) (omega (arith, size, length-append mine rest))
+            ∙ ap (λ (k : ℕ). take k (drop (length front) (triangleList ps ts r p l))) (let e : length front + length mine - length front ≡ length mine = omega arith in e)
+            ∙ ap (λ (xs : List ℕ). take (length mine) (drop (length front) xs)) around
+            ∙ ap (take (length mine)) (drop-append-seam front (mine ++ rest))
+            ∙ take-append-seam mine rest,
+      )

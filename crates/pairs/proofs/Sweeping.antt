@@ -175,17 +175,17 @@ module _ (placing : Bool) (n t i : ℕ) (s : Slabs) (j k : Ends) (o q : List ℕ
   pub record Slabbing (out list : List ℕ) (x y : ℕ) : Type 0 where
     pub walk : Walk j y
     pub visits : Visited placing n (gets t (rowsTo i s j k y) o) o q out list
-    pub before-row : Behind o n (i * 65536 + y * 256) x
+    pub before-row : Behind o n (i * 65536 + y * 256 + k .from) x
     pub before-slab : Behind o n ((i + 1) * 65536) x
 
-module _ (placing : Bool) (n t i : ℕ) (s : Slabs) (j k : Ends) (o q : List ℕ) (len : ℕ) (table : Table o n) (hi : i < 256) (hj : j .to ≤ 256) (hf : k .from ≤ k .to) (hk : k .to ≤ 256)
+module _ (placing : Bool) (n t i : ℕ) (s : Slabs) (j k : Ends) (o q : List ℕ) (len : ℕ) (table : Table o n) (hi : i < 256) (hr : j .from < 256) (hj : j .to ≤ 256) (hf : k .from ≤ k .to) (hk : k .to ≤ 256)
     (room : Room placing n (gets t (leftIn (record { i = one i; j = j; k = k }) s) o) o len) where
-  pub slabbing-first : (x : ℕ) → Behind o n (i * 65536) x → Slabbing placing n t i s j k o q o q x (j .from)
+  pub slabbing-first : (x : ℕ) → Behind o n (i * 65536 + j .from * 256 + k .from) x → Slabbing placing n t i s j k o q o q x (j .from)
   slabbing-first x b = record {
     walk = walk-starts j;
     visits = visited-none n placing (gets t (rowsTo i s j k (j .from)) o) o q (λ p l. gets-none t (rowsTo i s j k (j .from)) o p (none-along-j s j (one i) k (recordAt o p .cell)));
-    before-row = behind-more o n (i * 65536) (i * 65536 + j .from * 256) x (omega arith) b;
-    before-slab = behind-more o n (i * 65536) ((i + 1) * 65536) x (omega arith) b;
+    before-row = b;
+    before-slab = behind-more o n (i * 65536 + j .from * 256 + k .from) ((i + 1) * 65536) x (omega arith) b;
   }
 
   module _ (out list : List ℕ) (x y : ℕ) (w : Slabbing placing n t i s j k o q out list x y) where
@@ -198,7 +198,7 @@ module _ (placing : Bool) (n t i : ℕ) (s : Slabs) (j k : Ends) (o q : List ℕ
 
     module _ (h : y < j .to) (low high : ℕ) (el : low ≡ i * 65536 + y * 256 + k .from) (eh : high ≡ i * 65536 + y * 256 + k .to) where
       pub row-behind : Behind out n low x
-      row-behind = bump-behind n (gets t (rowsTo i s j k y) o) o out (w .visits .bumped) low x (behind-more o n (i * 65536 + y * 256) low x (omega arith) (w .before-row))
+      row-behind = bump-behind n (gets t (rowsTo i s j k y) o) o out (w .visits .bumped) low x (behind-more o n (i * 65536 + y * 256 + k .from) low x (omega arith) (w .before-row))
 
       row-same : (p : ℕ) → p < n → gets t (keyed low high s) out p ≡ gets t (rowIn i s k y) out p
       row-same p l =
@@ -221,7 +221,7 @@ module _ (placing : Bool) (n t i : ℕ) (s : Slabs) (j k : Ends) (o q : List ℕ
                 part-done placing n t (leftIn (record { i = one i; j = j; k = k }) s) (rowsTo i s j k y) (rowIn i s k y) (rowsTo i s j k (y + 1)) o q len room
                 (more-j s j y (w .walk) (one i) k) (apart-j s j y (one i) k) (in-j s j (y + 1) (omega arith) (one i) k) out list (w .visits) out' list'
                 (visited-same n placing (gets t (keyed low high s) out) (gets t (rowIn i s k y) out) out list out' list' row-same v);
-            before-row = behind-more o n high (i * 65536 + (y + 1) * 256) x' (omega arith) back;
+            before-row = behind-more o n high (i * 65536 + (y + 1) * 256 + k .from) x' (omega arith) back;
             before-slab = behind-more o n high ((i + 1) * 65536) x' (omega arith) back;
           }
 
@@ -253,8 +253,8 @@ module _ (placing : Bool) (n t : ℕ) (s : Slabs) (b : Block) (o q : List ℕ) (
     pub block-table : Table out n
     block-table = bump-table n (gets t (slabsTo s b y) o) o out (w .visits .bumped) table
 
-    pub slab-behind : Behind out n (y * 65536) x
-    slab-behind = bump-behind n (gets t (slabsTo s b y) o) o out (w .visits .bumped) (y * 65536) x (w .before)
+    pub slab-behind : (low : ℕ) → y * 65536 ≤ low → Behind out n low x
+    slab-behind low h = bump-behind n (gets t (slabsTo s b y) o) o out (w .visits .bumped) low x (behind-more o n (y * 65536) low x h (w .before))
 
     module _ (h : y < b .i .to) where
       pub slab-room : (len' : ℕ) → len' ≡ len → Room placing n (gets t (leftIn (slabAt b y) s) out) out len'
@@ -333,11 +333,13 @@ module _ (placing : Bool) (n : ℕ) (ps : List Float) (ts : List ℕ) (r : Axes)
             (visited-same n placing (gets t (hits ps ts r at t) out) one-more out list out' list' kept-gets v);
       }
 
--- a block that holds a cell ends along k behind where it begins
-pub held-ends : (b : Block) (c : Cell) → holds b c ≡ true → b .k .from ≤ b .k .to
+-- a block that holds a cell of the grid begins along j before the last place, and ends along k behind where it begins
+pub held-ends : (b : Block) (c : Cell) → c .j < 256 → holds b c ≡ true → (b .j .from < 256) × (b .k .from ≤ b .k .to)
 unfolding holds
-held-ends b c h =
+held-ends b c l h =
+    let e = both-r (between (b .i) (c .i)) (between (b .j) (c .j)) (both-l (between (b .i) (c .i) && between (b .j) (c .j)) (between (b .k) (c .k)) h) in
+    let z = leb-true (b .j .from) (c .j) (both-l (leb (b .j .from) (c .j)) (ltb (c .j) (b .j .to)) e) in
     let g = both-r (between (b .i) (c .i) && between (b .j) (c .j)) (between (b .k) (c .k)) h in
     let x = leb-true (b .k .from) (c .k) (both-l (leb (b .k .from) (c .k)) (ltb (c .k) (b .k .to)) g) in
     let y = ltb-true (c .k) (b .k .to) (both-r (leb (b .k .from) (c .k)) (ltb (c .k) (b .k .to)) g) in
-    omega arith
+    (omega arith, omega arith)

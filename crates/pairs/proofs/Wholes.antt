@@ -1,8 +1,8 @@
 -- Pass after pass: the records written, the triangles of each counted, the places laid, the triangles placed; and what stands in the two outputs then. Assumes nothing.
-use mathlib.Core.Bool.{Bool, true, false, cond, _&&_}
+use mathlib.Core.Bool.{Bool, true, false, _&&_}
 use mathlib.Core.Logic.{_⊎_, inl, inr, ⊎-elim}
 use mathlib.Core.Path.{_≡_, refl, sym, ap, subst, _∙_}
-use mathlib.Core.List.{List, [], _∷_, _++_, append-nil, append-assoc}
+use mathlib.Core.List.{List, [], _∷_, _++_, append-nil}
 use Prim.Native.Nat.{ℕ, zero, suc, _+_, _*_, _-_, _≤_, _<_}
 use native.Mathlib.Nat.{div-add-mod}
 use native.Mathlib.Omega.{arith}
@@ -18,9 +18,10 @@ use Rattle.grid.proofs.First.{le-or-lt}
 use Rattle.touch.specs.Slabs.{CellFits}
 use Rattle.mesh.specs.Mesh.{triangles}
 use Rattle.marking.specs.Marked.{hits}
-use Rattle.order.specs.Order.{key, chosen, joinAll}
+use Rattle.order.specs.Order.{key, joinAll}
 use Rattle.order.specs.Output.{over, Written}
 use Rattle.order.proofs.Keys.{keys-up, kept-in}
+use Rattle.order.proofs.Lists.{chosen-ext, chosen-most, join-append}
 use Rattle.order.proofs.Orders.{by-bool}
 use Rattle.order.proofs.Outputs.{append-left, append-right, written-over}
 use Rattle.order.proofs.Sums.{sum}
@@ -35,25 +36,7 @@ use Rattle.pairs.proofs.Layings.{sum-up}
 
 -- ---- lists
 
-chosen-ext : (p q : ℕ → Bool) (n : ℕ) → ((u : ℕ) → p u ≡ q u) → chosen p n ≡ chosen q n
-unfolding chosen
-chosen-ext p q zero h = refl
-chosen-ext p q (suc n) h = λ i. chosen-ext p q n h i ++ cond (h n i) (n ∷ []) []
-
-chosen-few : (p : ℕ → Bool) (n : ℕ) → length (chosen p n) ≤ n
-unfolding chosen
-chosen-few p zero = omega arith
-chosen-few p (suc n) =
-    by-bool (p n)
-    (λ e. rw e (omega (arith, length-append (chosen p n) (n ∷ []), chosen-few p n)))
-    (λ e. rw e (omega (arith, length-append (chosen p n) [], chosen-few p n)))
-
 module _ {A : Type 0} (f : A → List ℕ) (d : A) where
-  joined-append : (xs ys : List A) → joinAll f (xs ++ ys) ≡ joinAll f xs ++ joinAll f ys
-  unfolding joinAll
-  joined-append [] ys = refl
-  joined-append (x ∷ xs) ys = ap (λ (zs : List ℕ). f x ++ zs) (joined-append xs ys) ∙ sym (append-assoc (f x) (joinAll f xs) (joinAll f ys))
-
   -- so many elements the first p lists have
   unfoldable pub before : List A → ℕ → ℕ
   before cs p = length (joinAll f (take p cs))
@@ -62,7 +45,7 @@ module _ {A : Type 0} (f : A → List ℕ) (d : A) where
   unfolding before joinAll
   before-more cs p h =
       ap (λ (xs : List A). length (joinAll f xs)) (take-suc cs p d h)
-      ∙ ap (λ (xs : List ℕ). length xs) (joined-append (take p cs) (getD cs p d ∷ []))
+      ∙ ap (λ (xs : List ℕ). length xs) (join-append f (take p cs) (getD cs p d ∷ []))
       ∙ length-append (joinAll f (take p cs)) (f (getD cs p d) ++ [])
       ∙ ap (λ (k : ℕ). length (joinAll f (take p cs)) + k) (ap (λ (xs : List ℕ). length xs) (append-nil (f (getD cs p d))))
 
@@ -190,7 +173,7 @@ module _ (ps : List Float) (ts : List ℕ) (r : Axes) (p₀ : Placement) (l : Li
     -- the room for counting
     pub count-room : length ts ≤ 196608 → (len : ℕ) → Room false n (allOf ps ts r p₀ m (triangles ts)) m len
     count-room f len = record {
-      fits = λ p j. omega (arith, plain-end p j, chosen-few (λ u. meets (hits ps ts r p₀ u) (recordAt m p)) (triangles ts), f, div-add-mod (length ts) 3);
+      fits = λ p j. omega (arith, plain-end p j, chosen-most (λ u. meets (hits ps ts r p₀ u) (recordAt m p)) (triangles ts), f, div-add-mod (length ts) 3);
       free = tt;
     }
 

@@ -13,6 +13,7 @@ use Rattle.grid.specs.declared.Placement.{Placement}
 use Rattle.touch.specs.declared.Slabs.{Slabs}
 use Rattle.touch.specs.Slabs.{keptAll, CellFits}
 use Rattle.mesh.specs.declared.Block.{Block}
+use Rattle.mesh.specs.declared.Ends.{Ends}
 use Rattle.marking.specs.Marked.{hits}
 use Rattle.marking.specs.Painted.{one}
 use Rattle.order.specs.Order.{key, chosen}
@@ -44,6 +45,13 @@ pub record Behind (o : List ℕ) (n bound x : ℕ) : Type 0 where
 pub record Ahead (o : List ℕ) (n bound y : ℕ) : Type 0 where
   pub most : y ≤ n
   pub over : (p : ℕ) → y ≤ p → p < n → bound ≤ keyAt o p
+
+-- between two records, from `from` on, the first with a key of the bound or more lies
+pub record Window (o : List ℕ) (n bound from : ℕ) (w : Ends) : Type 0 where
+  pub low : Behind o n bound (w .from)
+  pub high : Ahead o n bound (w .to)
+  pub order : w .from ≤ w .to
+  pub after : from ≤ w .from
 
 -- ---- which records a triangle goes to
 

@@ -15,7 +15,7 @@ ghost use Rattle.listed.specs.Listed.{width, recordAt, ranged, Put};
 ghost use Rattle.list.specs.List.{outcome, listed, recordsOf};
 ghost use Rattle.tally.specs.Pairs.{trianglesOf, triangleList, pairCount};
 ghost use Rattle.pairs.specs.Paired.{inputFault, manyFault, roomsFault, pairsAnswer, recordsBuffer, trianglesBuffer};
-ghost use Rattle.pairs.specs.Visits.{keyAt, Table, Behind, Ahead, meets, keyed, slabAt, gets, allOf, Visited, Room, endsBefore, Laid};
+ghost use Rattle.pairs.specs.Visits.{keyAt, Table, Behind, Ahead, Window, meets, keyed, slabAt, gets, allOf, Visited, Room, endsBefore, Laid};
 use grid::Axes;
 use grid::Cell;
 use grid::Checked;
@@ -44,11 +44,11 @@ fn key_at(records: &[u32], n: usize, p: usize) -> usize
     key_of(listed::read(records, p).cell)
 }
 
-// Two records between which the first one lies whose key is `want` or more, from `from` on: by steps that
-// double, so that a near one is found soon.
-fn window(records: &[u32], n: usize, from: usize, want: usize) -> Ends
+// Two records between which the first one lies whose key is `want` or more, from `from` on: by steps up
+// that double, so that a near one is found soon.
+fn window_above(records: &[u32], n: usize, from: usize, want: usize) -> Ends
     requires { ⌜ Table (now records) n × Behind (now records) n want from ⌝ }
-    ensures { λ w. ⌜ Behind (now (records .entry)) n want (w .from) × Ahead (now (records .entry)) n want (w .to) × (w .from ≤ w .to) ⌝ }
+    ensures { λ w. ⌜ Window (now (records .entry)) n want from w ⌝ }
 {
     let mut lo = from;
     let mut step = 1usize;
@@ -63,12 +63,48 @@ fn window(records: &[u32], n: usize, from: usize, want: usize) -> Ends
     Ends { from: lo, to: n }
 }
 
-// The first record whose key is `want` or more, which lies from `from` on; or n.
-fn find(records: &[u32], n: usize, from: usize, want: usize) -> usize
-    requires { ⌜ Table (now records) n × Behind (now records) n want from ⌝ }
-    ensures { λ x. ⌜ Behind (now (records .entry)) n want x × Ahead (now (records .entry)) n want x ⌝ }
+// The same by steps down from record `near`, whose key is `want` or more.
+fn window_below(records: &[u32], n: usize, from: usize, near: usize, want: usize) -> Ends
+    requires { ⌜ Table (now records) n × Behind (now records) n want from × Ahead (now records) n want near × (from ≤ near) ⌝ }
+    ensures { λ w. ⌜ Window (now (records .entry)) n want from w ⌝ }
 {
-    let w = window(records, n, from, want);
+    let mut hi = near;
+    let mut step = 1usize;
+    while step < hi - from {
+        let next = hi - step;
+        if key_at(records, n, next) < want {
+            return Ends { from: next, to: hi };
+        }
+        hi = next;
+        step = 2 * step;
+    }
+    Ends { from, to: hi }
+}
+
+// The same, where record `near` is the guess: rows that follow each other lie about as far apart.
+fn window(records: &[u32], n: usize, from: usize, near: usize, want: usize) -> Ends
+    requires { ⌜ Table (now records) n × Behind (now records) n want from ⌝ }
+    ensures { λ w. ⌜ Window (now (records .entry)) n want from w ⌝ }
+{
+    if near <= from {
+        return window_above(records, n, from, want);
+    }
+    if n <= near {
+        return window_above(records, n, from, want);
+    }
+    if key_at(records, n, near) < want {
+        return window_above(records, n, near, want);
+    }
+    window_below(records, n, from, near, want)
+}
+
+// The first record whose key is `want` or more, which lies from `from` on; or n. It is looked for about
+// record `near` first.
+fn find(records: &[u32], n: usize, from: usize, near: usize, want: usize) -> usize
+    requires { ⌜ Table (now records) n × Behind (now records) n want from ⌝ }
+    ensures { λ x. ⌜ Behind (now (records .entry)) n want x × Ahead (now (records .entry)) n want x × (from ≤ x) ⌝ }
+{
+    let w = window(records, n, from, near, want);
     let mut lo = w.from;
     let mut hi = w.to;
     while lo < hi {
@@ -110,7 +146,7 @@ fn give(records: &mut [u32], list: &mut [u32], p: usize, e: Listed, t: u32, plac
 }
 
 // Triangle t goes to the records with keys from `want` up to, not including, `past` that the slabs leave.
-// They lie from record `from` on. Answers the first record that was not visited.
+// The first with such a key, if there is one, is `from`. Answers the first record that was not visited.
 fn visit_row(
     records: &mut [u32],
     list: &mut [u32],
@@ -122,13 +158,14 @@ fn visit_row(
     past: usize,
     from: usize,
 ) -> usize
-    requires { ⌜ Table (now records) n × Behind (now records) n want from × SlabsFit s ⌝ }
+    requires { ⌜ Table (now records) n × SlabsFit s ⌝ }
+    requires { ⌜ Behind (now records) n want from × Ahead (now records) n want from ⌝ }
     requires { ⌜ Room placing n (gets t (keyed want past s) (now records)) (now records) (length (now list)) ⌝ }
     requires { ⌜ want ≤ past ⌝ }
     ensures { λ _. ⌜ Visited placing n (gets t (keyed want past s) (now (records .entry))) (now (records .entry)) (now (list .entry)) (now (records .exit)) (now (list .exit)) ⌝ }
     ensures { λ x. ⌜ Behind (now (records .entry)) n past x ⌝ }
 {
-    let mut x = find(records, n, from, want);
+    let mut x = from;
     while x < n {
         let e = listed::read(records, x);
         if past <= key_of(e.cell) {
@@ -156,8 +193,8 @@ fn visit_slab(
     from: usize,
 ) -> usize
     requires { ⌜ Table (now records) n × SlabsFit s ⌝ }
-    requires { ⌜ (i < 256) × (b .j .to ≤ 256) × (b .k .from ≤ b .k .to) × (b .k .to ≤ 256) ⌝ }
-    requires { ⌜ Behind (now records) n (i * 65536) from ⌝ }
+    requires { ⌜ (i < 256) × (b .j .from < 256) × (b .j .to ≤ 256) × (b .k .from ≤ b .k .to) × (b .k .to ≤ 256) ⌝ }
+    requires { ⌜ Behind (now records) n (i * 65536 + b .j .from * 256 + b .k .from) from ⌝ }
     requires { ⌜ Room placing n (gets t (leftIn (slabAt b i) s) (now records)) (now records) (length (now list)) ⌝ }
     ensures { λ _. ⌜ Visited placing n (gets t (leftIn (slabAt b i) s) (now (records .entry))) (now (records .entry)) (now (list .entry)) (now (records .exit)) (now (list .exit)) ⌝ }
     ensures { λ x. ⌜ Behind (now (records .entry)) n ((i + 1) * 65536) x ⌝ }
@@ -166,11 +203,14 @@ fn visit_slab(
     let first = b.k.from;
     let past = b.k.to;
     let mut x = from;
+    let mut gap = 0usize;
     let mut j = b.j.from;
     while j < to {
         let low = key_of(Cell { i, j, k: first });
         let high = key_of(Cell { i, j, k: past });
-        x = visit_row(records, list, n, s, t, placing, low, high, x);
+        let y = find(records, n, x, x + gap, low);
+        gap = y - x;
+        x = visit_row(records, list, n, s, t, placing, low, high, y);
         j += 1;
     }
     x
@@ -186,15 +226,25 @@ fn visit_block(
     b: Block,
 )
     requires { ⌜ Table (now records) n × SlabsFit s ⌝ }
-    requires { ⌜ (b .i .to ≤ 256) × (b .j .to ≤ 256) × (b .k .from ≤ b .k .to) × (b .k .to ≤ 256) ⌝ }
+    requires { ⌜ (b .i .to ≤ 256) × (b .j .from < 256) × (b .j .to ≤ 256) × (b .k .from ≤ b .k .to) × (b .k .to ≤ 256) ⌝ }
     requires { ⌜ Room placing n (gets t (leftIn b s) (now records)) (now records) (length (now list)) ⌝ }
     ensures { λ _. ⌜ Visited placing n (gets t (leftIn b s) (now (records .entry))) (now (records .entry)) (now (list .entry)) (now (records .exit)) (now (list .exit)) ⌝ }
 {
     let to = b.i.to;
+    let row = b.j.from;
+    let first = b.k.from;
     let mut x = 0usize;
+    let mut leap = 0usize;
     let mut i = b.i.from;
     while i < to {
-        x = visit_slab(records, list, n, s, t, placing, b, i, x);
+        let low = key_of(Cell {
+            i,
+            j: row,
+            k: first,
+        });
+        let y = find(records, n, x, x + leap, low);
+        leap = y - x;
+        x = visit_slab(records, list, n, s, t, placing, b, i, y);
         i += 1;
     }
 }

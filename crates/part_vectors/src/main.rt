@@ -5,13 +5,12 @@
 // - kind 0: classes; the first number is how many triangles there are, the lists are entries and ends;
 // - kind 1: planes; the numbers are axis, low, high, best and step;
 // - kind 2: split; the first number is the axis, the placement's first is d, the first list has the points.
-ghost use mathlib.Core.Path.{_≡_};
 ghost use Prim.Native.Nat.{_+_, _*_, _≤_};
 ghost use lib.ListN.{length};
+use classes::Classing;
 use grid::Placement;
-use parts::Classing;
-use parts::Planing;
-use parts::Splitting;
+use planes::Planing;
+use planes::Splitting;
 use stored::Row;
 
 // The lists of a case; `next` is where the stored numbers end.
@@ -24,7 +23,7 @@ struct Lists {
 // ---- classes
 
 fn classify_and_report(entries: &[u32], ends: &[u32], count: usize, classes: &mut [u32]) {
-    match parts::classify(entries, ends, count, classes) {
+    match classes::classify(entries, ends, count, classes) {
         Classing::Classed => {
             replay::text(b"classed ");
             stored::show_words(classes, count);
@@ -63,7 +62,7 @@ fn planes_and_report(
     step: usize,
     ds: &mut [f32],
 ) {
-    match parts::planes_about(at, axis, low, high, best, step, ds) {
+    match planes::planes_about(at, axis, low, high, best, step, ds) {
         Planing::Planned(p) => {
             replay::text(b"planned ");
             replay::number(p.first as u64);
@@ -91,7 +90,7 @@ fn planes_case(s: &[u8], at: usize, n: usize)
 // ---- split
 
 fn split_and_report(ps: &[f32], axis: usize, d: f32, above: &mut [f32], below: &mut [f32]) {
-    match parts::split_points(ps, axis, d, above, below) {
+    match planes::split_points(ps, axis, d, above, below) {
         Splitting::Split(n) => {
             replay::text(b"split ");
             replay::number(n.first as u64);

@@ -81,7 +81,7 @@ same-length-2 c = search needs
 returns-3 : tie.Need-returns-3
 returns-3 c =
     let a = c .before .before .before .before .before .before .before .before .before .before .before .before .before .before .before .before .before .args in
-    boxed-meets (a .labels .now) (a .r) (a .at) (a .label) (a .points .now) (a .triangles .now) _ _ _ (sym (c .before .before .before .before .before .before .before .enum-told2 .given .1) ∙ all (c .before .before .before .before .before .before .before .before .before)) (number (c .before .before .before .before .before .before .before .before .before .before)) (room (c .before .before .before .before .before .before .before)) (c .before .before .before .before .write-boxes .ensures)
+    boxed-meets (a .labels .now) (a .r) (a .at) (a .label) (a .points .now) (a .triangles .now) _ _ _ (sym (all (c .before .before .before .before .before .before .before .before .before)) ∙ c .before .before .before .before .before .before .before .enum-told2 .given .1) (number (c .before .before .before .before .before .before .before .before .before .before)) (room (c .before .before .before .before .before .before .before)) (c .before .before .before .before .write-boxes .ensures)
 
 pub boxes-spec : {M : Type 1} → statement M
 boxes-spec =

@@ -4,8 +4,9 @@ use mathlib.Core.List.{[], _∷_}
 use mathlib.Core.Path.{_≡_, ap, _∙_}
 use lib.Ieee.{nan}
 use lib.ListN.{getD, length-set}
+use Rattle.order.proofs.Lists.{written-three}
 use Rattle.boxes.specs.Boxes.{corners, cornerOf}
-use Rattle.boxes.proofs.Rows.{written-as, written-three}
+use Rattle.boxes.proofs.Rows.{written-as}
 use borrow.Author.Needs.{needs}
 use Rattle.boxes.proofs.put_corner.Statement.{statement}
 use Rattle.boxes.proofs.put_corner.Tie as tie

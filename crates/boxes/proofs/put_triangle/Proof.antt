@@ -4,8 +4,9 @@ use mathlib.Core.List.{List}
 use mathlib.Core.Path.{ap, sym, subst}
 use Prim.Native.Nat.{ℕ, _<_}
 use lib.ListN.{getD, length-set}
+use Rattle.order.proofs.Lists.{written-three}
 use Rattle.boxes.specs.Boxes.{faceOf}
-use Rattle.boxes.proofs.Rows.{written-as, written-three}
+use Rattle.boxes.proofs.Rows.{written-as}
 use Rattle.boxes.proofs.Tables.{face-corner}
 use borrow.Author.Needs.{needs}
 use Rattle.boxes.proofs.put_triangle.Statement.{statement}

@@ -8,7 +8,8 @@ use borrow.Author.Tests.{eq-eqb, ne-eqb}
 use Rattle.grid.specs.Counts.{countOf}
 use Rattle.grid.specs.Grid.{InGrid, at}
 use Rattle.grid.proofs.Cells.{num-lt}
-use Rattle.order.proofs.Orders.{key, falls, stands-in}
+use Rattle.order.specs.Order.{key}
+use Rattle.order.proofs.Orders.{falls, stands-in}
 use Rattle.boxes.proofs.Writes.{asked, Writing, writing-none, writing-no, writing-yes, writing-room, writing-done, count-few}
 use Rattle.boxes.proofs.write_boxes.Statement.{statement}
 use Rattle.boxes.proofs.write_boxes.Tie as tie

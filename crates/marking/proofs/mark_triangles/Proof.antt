@@ -4,10 +4,11 @@ use mathlib.Core.Path.{_≡_, subst}
 use Prim.Native.Nat.{ℕ, _-_, _≤_}
 use Rattle.grid.specs.declared.Cell.{Cell}
 use Rattle.grid.specs.First.{someBelow}
+use Rattle.grid.proofs.First.{some-none, some-more}
 use Rattle.mesh.specs.Mesh.{triangles}
 use Rattle.marking.specs.Marked.{hits}
 use Rattle.marking.specs.Painted.{Painted}
-use Rattle.marking.proofs.Paint.{painted-none, painted-then, painted-sheet, some-none, some-more}
+use Rattle.marking.proofs.Paint.{painted-none, painted-then, painted-sheet}
 use Rattle.marking.proofs.mark_triangles.Statement.{statement}
 use Rattle.marking.proofs.mark_triangles.Tie as tie
 

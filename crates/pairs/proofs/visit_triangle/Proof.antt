@@ -20,10 +20,10 @@ cast-visit-block c = let p = c .before .before .before .before .before .before .
 
 visit-block-requires : tie.Need-visit-block-requires
 visit-block-requires c κs =
-    let a = c .before .before .before .before .before .before .before .args in let p = c .before .before .before .before .before .before .before .pre in let w = c .before .before .sweep-of .ensures in let s = p .0 .1 in (
+    let a = c .before .before .before .before .before .before .before .args in let p = c .before .before .before .before .before .before .before .pre in let w = c .before .before .sweep-of .ensures in let s = p .0 .1 in let e = held-ends _ (w .some) (omega (arith, w .some-in .j-in, s .axis1 .most)) (w .some-held) in (
       (p .0 .0, w .fit),
       (
-        (omega (arith, w .i-in, s .axis0 .most), omega (arith, w .j-in, s .axis1 .most), held-ends _ (w .some) (w .some-held), omega (arith, w .k-in, s .axis2 .most)),
+        (omega (arith, w .i-in, s .axis0 .most), e .0, omega (arith, w .j-in, s .axis1 .most), e .1, omega (arith, w .k-in, s .axis2 .most)),
         room-same (a .placing) (a .n) (gets (a .t) (hits (a .ps .now) (a .ts .now) (a .r) (a .at) (a .t)) (a .records .now)) (gets (a .t) (leftIn (c .before .before .sweep-of .result .block) (c .before .before .sweep-of .result .slabs)) (a .records .now)) (a .records .now) _
             (λ x l. gets-same (a .t) (hits (a .ps .now) (a .ts .now) (a .r) (a .at) (a .t)) (leftIn (c .before .before .sweep-of .result .block) (c .before .before .sweep-of .result .slabs)) (a .records .now) x (sym (w .cells (recordAt (a .records .now) x .cell)))) (p .1 .1),
       ),

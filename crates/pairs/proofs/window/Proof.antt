@@ -1,56 +1,47 @@
--- `pairs::window` meets its contract: all records before `lo` lie before the key. Assumes nothing.
+-- `pairs::window` meets its contract: up from the guess, or down from it. Assumes nothing.
+use borrow.Author.Needs.{needs}
 use Rattle.pairs.proofs.window.Statement.{statement}
 use Rattle.pairs.proofs.window.Tie as tie
-use Prim.Native.Nat.{_-_, _≤_, _<_}
 use native.Mathlib.Omega.{arith}
-use Rattle.pairs.specs.Visits.{Behind}
-use Rattle.pairs.proofs.Tables.{behind-at, ahead-at, ahead-none}
+use Rattle.pairs.proofs.Tables.{behind-at, ahead-at}
 
-abbrev Inv-loop : tie.InvT-loop
-Inv-loop records n from want lo₀ step₀ lo step = Behind records n want lo × (0 < step) × (step ≤ 33554432)
+window-above-requires : tie.Need-window-above-requires
+window-above-requires c κs = search needs
 
-abbrev μ-loop : tie.MeasureT-loop
-μ-loop records n from want lo₀ step₀ lo step = n - lo
+returns : tie.Need-returns
+returns c = c .window-above .ensures
 
-loop-holds : tie.Need-loop-holds Inv-loop μ-loop
-loop-holds c = (c .before .pre .1, omega arith, omega arith)
+window-above-requires-2 : tie.Need-window-above-requires-2
+window-above-requires-2 c κs = search needs
 
-sub-loop : tie.Need-sub-loop Inv-loop μ-loop
-sub-loop c = c .loop .inv .0 .most
+returns-2 : tie.Need-returns-2
+returns-2 c = c .window-above2 .ensures
 
-add-next : tie.Need-add-next Inv-loop μ-loop
-add-next c = omega (arith, c .before .loop .inv .2, c .before .loop .inv .0 .most, c .before .before .before .pre .0 .few)
+key-at-requires : tie.Need-key-at-requires
+key-at-requires c κs = search needs
 
-key-at-requires : tie.Need-key-at-requires Inv-loop μ-loop
-key-at-requires c κs = (c .before .before .before .pre .0, omega (arith, c .loop-test .taken, c .before .loop .inv .0 .most))
+window-above-requires-3 : tie.Need-window-above-requires-3
+window-above-requires-3 c κs = let a = c .before .before .before .before .before .args in (c .before .before .before .before .before .pre .0, behind-at (a .records .now) (a .n) (c .before .before .before .before .before .pre .0) (a .want) (a .near) (c .before .before .if2 .left) (omega (arith, c .if3 .taken, c .before .key-at .ensures)))
 
-returns : tie.Need-returns Inv-loop μ-loop
-returns c = let a = c .before .before .before .before .before .args in let i = c .before .before .before .loop .inv in (i .0, ahead-at (a .records .now) (a .n) (c .before .before .before .before .before .pre .0) (a .want) _ (omega (arith, c .before .before .loop-test .taken, i .0 .most)) (omega (arith, c .if1 .taken, c .before .key-at .ensures)), omega arith)
+returns-3 : tie.Need-returns-3
+returns-3 c = let w = c .window-above3 .ensures in record { low = w .low; high = w .high; order = w .order; after = omega (arith, w .after, c .before .before .before .before .if1 .left) }
 
-mul-step : tie.Need-mul-step Inv-loop μ-loop
-mul-step c = omega (arith, c .before .before .loop-test .taken, c .before .before .before .before .before .pre .0 .few)
+window-below-requires : tie.Need-window-below-requires
+window-below-requires c κs = let a = c .before .before .before .before .before .args in (c .before .before .before .before .before .pre .0, c .before .before .before .before .before .pre .1, ahead-at (a .records .now) (a .n) (c .before .before .before .before .before .pre .0) (a .want) (a .near) (c .before .before .if2 .left) (omega (arith, c .if3 .left, c .before .key-at .ensures)), omega (arith, c .before .before .before .if1 .left))
 
-loop-less : tie.Need-loop-less Inv-loop μ-loop
-loop-less c = omega (arith, c .before .before .loop-test .taken, c .before .before .before .loop .inv .1)
-
-loop-again : tie.Need-loop-again Inv-loop μ-loop
-loop-again c = let a = c .before .before .before .before .before .args in let i = c .before .before .before .loop .inv in (behind-at (a .records .now) (a .n) (c .before .before .before .before .before .pre .0) (a .want) _ (omega (arith, c .before .before .loop-test .taken, i .0 .most)) (omega (arith, c .if1 .left, c .before .key-at .ensures)), omega (arith, i .1), omega (arith, c .before .before .loop-test .taken, c .before .before .before .before .before .pre .0 .few))
-
-returns-2 : tie.Need-returns-2 Inv-loop μ-loop
-returns-2 c = let a = c .before .before .before .args in (c .before .loop .inv .0, ahead-none (a .records .now) (a .n) (a .want), c .before .loop .inv .0 .most)
+returns-4 : tie.Need-returns-4
+returns-4 c = c .window-below .ensures
 
 pub window-spec : {M : Type 1} → statement M
 window-spec =
     tie.close
     (tie.spec
-    Inv-loop
-    μ-loop
-    loop-holds
-    sub-loop
-    add-next
-    key-at-requires
+    window-above-requires
     returns
-    mul-step
-    loop-less
-    loop-again
-    returns-2)
+    window-above-requires-2
+    returns-2
+    key-at-requires
+    window-above-requires-3
+    returns-3
+    window-below-requires
+    returns-4)

@@ -1,3 +1,0 @@
-pub mod Classes
-pub mod Planes
-pub mod Split
