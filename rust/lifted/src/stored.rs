@@ -116,8 +116,21 @@ pub struct Stored {
     pub answer: String,
 }
 
+/// Cases by the name of their family.
+pub type Families = Vec<(&'static str, Vec<Stored>)>;
+
+/// The cases of each group that was chosen by hand, stored.
+pub fn by_hand<C>(groups: &[(&'static str, fn(&mut Vec<C>))], stored: impl Fn(&C) -> Stored) -> Families {
+    let cases = |group: &fn(&mut Vec<C>)| {
+        let mut cases = vec![];
+        group(&mut cases);
+        cases
+    };
+    groups.iter().map(|(name, group)| (*name, cases(group).iter().map(&stored).collect())).collect()
+}
+
 /// Writes the cases of all families, and prints how many there are of each family, and of each answer.
-pub fn write(families: &[(&str, Vec<Stored>)]) {
+pub fn write(families: &Families) {
     let folder = std::env::args().nth(1).expect("the folder to write stdin and stdout to");
     let all = || families.iter().flat_map(|(_, cases)| cases);
     let input = all().flat_map(|c| c.input.clone()).collect::<Vec<u8>>();

@@ -261,12 +261,7 @@ fn main() {
         ("refusals", refusals), ("priorities", priorities),
     ];
     let stored = |c: &Case| Stored { input: input(c), answer: answer(c) };
-    let mut families: Vec<(&str, Vec<Stored>)> = vec![];
-    for (name, group) in groups {
-        let mut cases = vec![];
-        group(&mut cases);
-        families.push((name, cases.iter().map(stored).collect()));
-    }
+    let mut families = stored::by_hand(&groups, stored);
     let mut rng = Random(0x5eed_0013_2026);
     families.push(("random", (0..250).map(|_| stored(&random(&mut rng))).collect()));
     stored::write(&families);

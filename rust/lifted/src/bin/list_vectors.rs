@@ -521,12 +521,7 @@ fn main() {
         ("map refused", map_refusals), ("priorities", priorities), ("ranges", ranges),
     ];
     let stored = |c: &Case| Stored { input: input(c), answer: answer(c) };
-    let mut families: Vec<(&str, Vec<Stored>)> = vec![];
-    for (name, group) in groups {
-        let mut cases = vec![];
-        group(&mut cases);
-        families.push((name, cases.iter().map(stored).collect()));
-    }
+    let mut families = stored::by_hand(&groups, stored);
     let mut rng = Random(0x5eed_0011_2026);
     families.push(("random", (0..300).map(|_| stored(&random(&mut rng))).collect()));
     stored::write(&families);

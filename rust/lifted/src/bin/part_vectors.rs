@@ -583,12 +583,7 @@ fn main() {
         ("splits refused", split_refusals), ("outputs of splits", split_outputs),
     ];
     let stored = |c: &Case| Stored { input: input(c), answer: answer(c) };
-    let mut families: Vec<(&str, Vec<Stored>)> = vec![];
-    for (name, group) in groups {
-        let mut cases = vec![];
-        group(&mut cases);
-        families.push((name, cases.iter().map(stored).collect()));
-    }
+    let mut families = stored::by_hand(&groups, stored);
     let mut rng = Random(0x5eed_0012_2026);
     let drawn: [(&str, fn(&mut Random) -> Case); 3] = [
         ("random classes", random_classes), ("random planes", random_planes), ("random splits", random_split),
