@@ -1,5 +1,5 @@
 -- A triangle goes to the records of a block, part after part: the room for the next part, and what has been given with it; a row by its keys; and triangle after triangle. Assumes nothing.
-use mathlib.Core.Bool.{Bool, true, false, not, cond, _&&_, _||_}
+use mathlib.Core.Bool.{Bool, true≢false, true, false, not, cond, _&&_, _||_}
 use mathlib.Core.Path.{_≡_, refl, sym, ap, subst, _∙_}
 use mathlib.Core.Logic.{⊎-elim}
 use mathlib.Core.List.{List, [], _∷_, _++_, append-nil, append-assoc}
@@ -15,7 +15,8 @@ use Rattle.grid.specs.declared.Cell.{Cell}
 use Rattle.grid.specs.declared.Placement.{Placement}
 use Rattle.grid.proofs.First.{le-or-lt}
 use Rattle.touch.specs.declared.Slabs.{Slabs}
-use Rattle.touch.specs.Slabs.{keptAll, CellFits}
+use Rattle.touch.specs.Slabs.{keptAll, keptRow, CellFits, SlabsFit}
+use Rattle.touch.proofs.Laws.{kept-row}
 use Rattle.mesh.specs.declared.Block.{Block}
 use Rattle.mesh.specs.declared.Ends.{Ends}
 use Rattle.mesh.specs.Mesh.{triangles}
@@ -224,6 +225,42 @@ module _ (placing : Bool) (n t i : ℕ) (s : Slabs) (j k : Ends) (o q : List ℕ
             before-row = behind-more o n high (i * 65536 + (y + 1) * 256 + k .from) x' (omega arith) back;
             before-slab = behind-more o n high ((i + 1) * 65536) x' (omega arith) back;
           }
+
+-- a row that the directions without k leave nothing of gets nothing
+row-empty : (i y : ℕ) (s : Slabs) (k : Ends) → SlabsFit s → keptRow s i y ≡ false → (c : Cell) → rowIn i s k y c ≡ false
+unfolding holds
+row-empty i y s k f z c = go ((between (one i) (c .i) && between (one y) (c .j)) && between k (c .k)) (keptAll s c) refl refl
+  where
+    here : (n x : ℕ) → between (one n) x ≡ true → x ≡ n
+    here n x h =
+        let p = leb-true n x (both-l (leb n x) (ltb x (n + 1)) h) in
+        let q = ltb-true x (n + 1) (both-r (leb n x) (ltb x (n + 1)) h) in
+        omega arith
+
+    go : (a b : Bool) → ((between (one i) (c .i) && between (one y) (c .j)) && between k (c .k)) ≡ a → keptAll s c ≡ b → (((between (one i) (c .i) && between (one y) (c .j)) && between k (c .k)) && keptAll s c) ≡ false
+    go false b e g = ap (λ (x : Bool). x && keptAll s c) e
+    go true false e g = ap (λ (x : Bool). x && keptAll s c) e ∙ g
+    go true true e g =
+        let ij = both-l (between (one i) (c .i) && between (one y) (c .j)) (between k (c .k)) e in
+        let hi = here i (c .i) (both-l (between (one i) (c .i)) (between (one y) (c .j)) ij) in
+        let hj = here y (c .j) (both-r (between (one i) (c .i)) (between (one y) (c .j)) ij) in
+        absurd (true≢false (sym (kept-row s c f g) ∙ (λ t. keptRow s (hi t) (hj t)) ∙ z))
+
+pub slabbing-skip : (placing : Bool) (n t i : ℕ) (s : Slabs) (j k : Ends) (o q out list : List ℕ) (x y : ℕ) → SlabsFit s → keptRow s i y ≡ false → y < j .to
+    → Slabbing placing n t i s j k o q out list x y → Slabbing placing n t i s j k o q out list x (y + 1)
+slabbing-skip placing n t i s j k o q out list x y f z h w = record {
+  walk = walk-on j y (w .walk) h;
+  visits = visited-same n placing (gets t (rowsTo i s j k y) o) (gets t (rowsTo i s j k (y + 1)) o) o q out list same (w .visits);
+  before-row = behind-more o n (i * 65536 + y * 256 + k .from) (i * 65536 + (y + 1) * 256 + k .from) x (omega arith) (w .before-row);
+  before-slab = w .before-slab;
+}
+  where
+    same : (p : ℕ) → p < n → gets t (rowsTo i s j k y) o p ≡ gets t (rowsTo i s j k (y + 1)) o p
+    same p l =
+        let c = recordAt o p .cell in
+        sym (gets-either t (rowsTo i s j k y) (rowIn i s k y) (rowsTo i s j k (y + 1)) o p (more-j s j y (w .walk) (one i) k c) (apart-j s j y (one i) k c)
+        ∙ ap (λ (ys : List ℕ). gets t (rowsTo i s j k y) o p ++ ys) (gets-none t (rowIn i s k y) o p (row-empty i y s k f z c))
+        ∙ append-nil (gets t (rowsTo i s j k y) o p))
 
 -- ---- slab after slab of a block
 

@@ -180,7 +180,7 @@ fn visit_row(
     x
 }
 
-// The rows of slab i of a block.
+// The rows of slab i of a block; one that the slabs leave no cell of is passed over.
 fn visit_slab(
     records: &mut [u32],
     list: &mut [u32],
@@ -206,12 +206,19 @@ fn visit_slab(
     let mut gap = 0usize;
     let mut j = b.j.from;
     while j < to {
-        let low = key_of(Cell { i, j, k: first });
-        let high = key_of(Cell { i, j, k: past });
-        let y = find(records, n, x, x + gap, low);
-        gap = y - x;
-        x = visit_row(records, list, n, s, t, placing, low, high, y);
+        let row = j;
         j += 1;
+        if touch::row_within(s, i, row) {
+            let low = key_of(Cell {
+                i,
+                j: row,
+                k: first,
+            });
+            let high = key_of(Cell { i, j: row, k: past });
+            let y = find(records, n, x, x + gap, low);
+            gap = y - x;
+            x = visit_row(records, list, n, s, t, placing, low, high, y);
+        }
     }
     x
 }

@@ -2,7 +2,7 @@
 use mathlib.Core.Bool.{Bool, _&&_}
 use mathlib.Core.Path.{_≡_}
 use mathlib.Core.List.{List}
-use Prim.Native.Nat.{_<_, _^_}
+use Prim.Native.Nat.{ℕ, _<_, _^_}
 use lib.IntN.{ℤ, pos, _+ℤ_, _-ℤ_, _*ℤ_}
 use lib.Signed.{leZ}
 use Rattle.grid.specs.declared.Cell.{Cell}
@@ -12,7 +12,7 @@ use Rattle.ints.specs.Order.{lesser, greater}
 use Rattle.touch.specs.declared.Slab.{Slab}
 use Rattle.touch.specs.declared.Three.{Three}
 use Rattle.touch.specs.declared.Slabs.{Slabs}
-use Rattle.touch.specs.Touch.{along, vertex, dotZ, reach, edge, cross, axisX, axisY, axisZ, normal, edgeOf}
+use Rattle.touch.specs.Touch.{along, vertex, dotZ, reach, cross, axisX, axisY, axisZ, normal, edgeOf}
 
 -- of a direction d: from the least projection less the reach to the greatest and the reach
 unfoldable pub slabOf : List ℤ → List (List ℤ) → Slab
@@ -55,6 +55,16 @@ keptAt s i j k =
 
 unfoldable pub keptAll : Slabs → Cell → Bool
 keptAll s c = keptAt s (pos (c .i)) (pos (c .j)) (pos (c .k))
+
+-- what the directions without k say of the row of cells (i, j) along k: a cell that is left lies in a row that is kept (`kept-row` in proofs/Laws.antt)
+abbrev pub keptFlat : Slab → ℤ → ℤ → Bool
+keptFlat s i j = kept s i j (pos 0)
+
+abbrev pub keptRowAt : Slabs → ℤ → ℤ → Bool
+keptRowAt s i j = keptFlat (s .axes .x) i j && keptFlat (s .axes .y) i j && keptFlat (s .edge01 .z) i j && keptFlat (s .edge12 .z) i j && keptFlat (s .edge20 .z) i j
+
+abbrev pub keptRow : Slabs → ℕ → ℕ → Bool
+keptRow s i j = keptRowAt s (pos i) (pos j)
 
 -- ---- the ranges, which hold for up to 1,024 parts of a side
 
