@@ -1,5 +1,5 @@
 -- Laws of a record's numbers: two records with the same numbers are one, and what a store of numbers does to records. And of a range of a list. Assumes nothing.
-use mathlib.Core.Bool.{Bool, true, false, cond, _||_}
+use mathlib.Core.Bool.{Bool, true, false, cond}
 use mathlib.Core.Logic.{_⊎_, inl, inr}
 use mathlib.Core.Path.{_≡_, refl, sym, ap, _∙_}
 use mathlib.Core.List.{List, [], _++_}
@@ -9,7 +9,8 @@ use native.Mathlib.Omega.{arith}
 use lib.Dec.{ltb}
 use lib.ListN.{length, getD, set, take, drop, length-set, length-drop}
 use lib.Seq.{getD-set-same, getD-set-other, length-take-le, getD-take, getD-drop, getD-append-add}
-use borrow.Author.Tests.{lt-ltb, le-ltb, ltb-false}
+use borrow.Author.Tests.{le-ltb, ltb-false}
+use Rattle.grid.specs.declared.Checked.{Checked}
 use Rattle.grid.specs.declared.Checked.the-variants.{Fine}
 use Rattle.grid.specs.Answers.{faultAt, faultIf}
 use Rattle.grid.proofs.Cells.{cell-path}
@@ -163,15 +164,10 @@ module _ (o : List ℕ) (p start end : ℕ) (room : p * width + width ≤ length
 -- ---- a range of a list
 
 module _ (list : List ℕ) (start end : ℕ) where
-  pub back-is-bad : end < start → badRange list start end ≡ true
-  back-is-bad h = ap (λ (b : Bool). b || ltb (length list) end) (lt-ltb end start h)
-
-  pub past-is-bad : length list < end → badRange list start end ≡ true
-  past-is-bad h = ap (λ (b : Bool). ltb end start || b) (lt-ltb (length list) end h) ∙ or-right (ltb end start)
-    where
-      or-right : (b : Bool) → (b || true) ≡ true
-      or-right true = refl
-      or-right false = refl
+  pub good-means : badRange list start end ≡ false → (start ≤ end) × (end ≤ length list)
+  good-means b =
+      let w = or-false (ltb end start) (ltb (length list) end) b in
+      (ltb-false end start (w .0), ltb-false (length list) end (w .1))
 
   pub good-range : start ≤ end → end ≤ length list → badRange list start end ≡ false
   good-range h g = rw (le-ltb end start h, le-ltb (length list) end g)
@@ -189,11 +185,15 @@ module _ (list : List ℕ) (start end : ℕ) where
 
   pub part-length : rangeFault list start end ≡ Fine → (start ≤ end) × (end ≤ length list) × (length (partOf list start end) ≡ end - start)
   part-length h =
-      let b = passed (badRange list start end) 15 0 Fine h .0 in
-      let w = or-false (ltb end start) (ltb (length list) end) b in
-      let le : start ≤ end = ltb-false end start (w .0) in
-      let lt : end ≤ length list = ltb-false (length list) end (w .1) in
-      (le, lt, ap (λ (l : List ℕ). length l) (part-good le lt) ∙ length-take-le (end - start) (drop start list) (omega (arith, length-drop start list)))
+      let w = good-means (passed (badRange list start end) 15 0 Fine h .0) in
+      (w .0, w .1, ap (λ (l : List ℕ). length l) (part-good (w .0) (w .1)) ∙ length-take-le (end - start) (drop start list) (omega (arith, w, length-drop start list)))
 
   pub part-element : start ≤ end → end ≤ length list → (n : ℕ) → n < end - start → getD (partOf list start end) n 0 ≡ getD list (start + n) 0
   part-element h g n l = ap (λ (m : List ℕ). getD m n 0) (part-good h g) ∙ getD-take (end - start) (drop start list) n 0 l ∙ getD-drop start list n 0
+
+  -- two results that fit a contract coincide
+  pub part-settled : (s t : List ℕ) → s ≡ partOf list start end → t ≡ partOf list start end → s ≡ t
+  part-settled s t p q = p ∙ sym q
+
+  pub range-settled : (f g : Checked) → f ≡ rangeFault list start end → g ≡ rangeFault list start end → f ≡ g
+  range-settled f g p q = p ∙ sym q

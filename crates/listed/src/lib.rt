@@ -69,11 +69,18 @@ pub fn set_range(records: &mut [u32], p: usize, start: u32, end: u32)
     records[at + END] = end;
 }
 
+// Whether a range falls back or passes the list.
+fn bad_range(list: &[u32], start: u32, end: u32) -> bool
+    ensures { λ b. ⌜ b ≡ badRange (now (list .entry)) start end ⌝ }
+{
+    (end < start) | (list.len() < end as usize)
+}
+
 // Refusal 15 of a range of a list.
 pub fn check_range(list: &[u32], start: u32, end: u32) -> Checked
     ensures { λ f. ⌜ f ≡ rangeFault (now (list .entry)) start end ⌝ }
 {
-    if (end < start) | (list.len() < end as usize) {
+    if bad_range(list, start, end) {
         return grid::fault(15, 0);
     }
     Checked::Fine
@@ -84,13 +91,10 @@ pub fn check_range(list: &[u32], start: u32, end: u32) -> Checked
 pub fn part(list: &[u32], start: u32, end: u32) -> &[u32]
     ensures { λ s. ⌜ now s ≡ partOf (now (list .entry)) start end ⌝ }
 {
+    if bad_range(list, start, end) {
+        return &list[0..0];
+    }
     let from = start as usize;
     let to = end as usize;
-    if to < from {
-        return &list[0..0];
-    }
-    if list.len() < to {
-        return &list[0..0];
-    }
     &list[from..to]
 }

@@ -7,14 +7,17 @@ use mathlib.Core.Path.{sym, ap, _∙_}
 use Rattle.grid.specs.declared.Checked.the-variants.{Fine}
 use Rattle.grid.specs.Answers.{faultIf}
 
+bad-range-requires : tie.Need-bad-range-requires
+bad-range-requires c κs = search needs
+
 fault-requires : tie.Need-fault-requires
 fault-requires c κs = search needs
 
 returns : tie.Need-returns
-returns c = c .fault .ensures ∙ sym (ap (λ (b : Bool). faultIf b 15 0 Fine) (c .before .if1 .taken))
+returns c = c .fault .ensures ∙ sym (ap (λ (b : Bool). faultIf b 15 0 Fine) (sym (c .before .before .bad-range .ensures) ∙ c .before .if1 .taken))
 
 returns-2 : tie.Need-returns-2
-returns-2 c = sym (ap (λ (b : Bool). faultIf b 15 0 Fine) (c .if1 .left))
+returns-2 c = sym (ap (λ (b : Bool). faultIf b 15 0 Fine) (sym (c .before .bad-range .ensures) ∙ c .if1 .left))
 
 pub check-range-spec : {M : Type 1} → statement M
-check-range-spec = tie.close (tie.spec fault-requires returns returns-2)
+check-range-spec = tie.close (tie.spec bad-range-requires fault-requires returns returns-2)

@@ -2,8 +2,12 @@
 use borrow.Author.Needs.{needs}
 use Rattle.listed.proofs.part.Statement.{statement}
 use Rattle.listed.proofs.part.Tie as tie
-use mathlib.Core.Path.{sym}
-use Rattle.listed.proofs.Records.{back-is-bad, past-is-bad, part-good, part-bad}
+use mathlib.Core.Path.{sym, _∙_}
+use native.Mathlib.Omega.{arith}
+use Rattle.listed.proofs.Records.{good-means, part-good, part-bad}
+
+bad-range-requires : tie.Need-bad-range-requires
+bad-range-requires c κs = search needs
 
 sub-result : tie.Need-sub-result
 sub-result c = search needs
@@ -15,45 +19,34 @@ part-result-end : tie.Need-part-result-end
 part-result-end c = search needs
 
 returns : tie.Need-returns
-returns c = sym (part-bad (c .before .before .args .list .now) (c .before .before .args .start) (c .before .before .args .end) (back-is-bad (c .before .before .args .list .now) _ _ (c .before .if1 .taken)))
-
-sub-result-2 : tie.Need-sub-result-2
-sub-result-2 c = search needs
-
-part-result-start-2 : tie.Need-part-result-start-2
-part-result-start-2 c = search needs
-
-part-result-end-2 : tie.Need-part-result-end-2
-part-result-end-2 c = search needs
-
-returns-2 : tie.Need-returns-2
-returns-2 c = sym (part-bad (c .before .before .before .args .list .now) (c .before .before .before .args .start) (c .before .before .before .args .end) (past-is-bad (c .before .before .before .args .list .now) (c .before .before .before .args .start) _ (c .before .if2 .taken)))
+returns c = sym (part-bad (c .before .before .before .before .args .list .now) (c .before .before .before .before .args .start) (c .before .before .before .before .args .end) (sym (c .before .before .bad-range .ensures) ∙ c .before .if1 .taken))
 
 mul-result : tie.Need-mul-result
 mul-result c = search needs
 
-part-result-start-3 : tie.Need-part-result-start-3
-part-result-start-3 c = search needs
+sub-result-2 : tie.Need-sub-result-2
+sub-result-2 c = omega (arith, good-means (c .before .before .before .args .list .now) (c .before .before .before .args .start) (c .before .before .before .args .end) (sym (c .before .bad-range .ensures) ∙ c .if1 .left))
 
-part-result-end-3 : tie.Need-part-result-end-3
-part-result-end-3 c = search needs
+part-result-start-2 : tie.Need-part-result-start-2
+part-result-start-2 c = omega (arith, good-means (c .before .before .before .args .list .now) (c .before .before .before .args .start) (c .before .before .before .args .end) (sym (c .before .bad-range .ensures) ∙ c .if1 .left))
 
-returns-3 : tie.Need-returns-3
-returns-3 c = sym (part-good (c .before .before .before .args .list .now) _ _ (c .before .before .if1 .left) (c .before .if2 .left))
+part-result-end-2 : tie.Need-part-result-end-2
+part-result-end-2 c = omega (arith, good-means (c .before .before .before .args .list .now) (c .before .before .before .args .start) (c .before .before .before .args .end) (sym (c .before .bad-range .ensures) ∙ c .if1 .left))
+
+returns-2 : tie.Need-returns-2
+returns-2 c = let g = good-means (c .before .before .before .before .args .list .now) (c .before .before .before .before .args .start) (c .before .before .before .before .args .end) (sym (c .before .before .bad-range .ensures) ∙ c .before .if1 .left) in sym (part-good (c .before .before .before .before .args .list .now) (c .before .before .before .before .args .start) (c .before .before .before .before .args .end) (g .0) (g .1))
 
 pub part-spec : {M : Type 1} → statement M
 part-spec =
     tie.close
     (tie.spec
+    bad-range-requires
     sub-result
     part-result-start
     part-result-end
     returns
+    mul-result
     sub-result-2
     part-result-start-2
     part-result-end-2
-    returns-2
-    mul-result
-    part-result-start-3
-    part-result-end-3
-    returns-3)
+    returns-2)
