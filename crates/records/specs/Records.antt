@@ -3,7 +3,6 @@ use mathlib.Core.List.{List, [], _∷_, _++_}
 use mathlib.Core.Path.{_≡_}
 use Prim.Native.Nat.{ℕ}
 use lib.ListN.{length}
-use Rattle.grid.specs.declared.Checked.{Checked}
 use Rattle.grid.specs.Answers.{Outcome, answers, refuses, unless, lentAfter}
 use Rattle.order.specs.Output.{roomFault, over}
 use Rattle.text.specs.Text.{line}
@@ -55,16 +54,19 @@ abbrev pub text : Outcome Summary → List ℕ
 text (answers n) = sixLines n
 text (refuses n place) = line refusedWord (n ∷ [])
 
--- ---- the text in a lent output: how many bytes, or 14, and the output after it
+-- ---- a text in a lent output: how many bytes, or 14, and the output after it
 
-abbrev pub textFault : Outcome Summary → List ℕ → Checked
-textFault o out = roomFault (length out) (length (text o))
+abbrev pub copyAnswer : List ℕ → List ℕ → Outcome ℕ
+copyAnswer xs out = unless (roomFault (length out) (length xs)) (answers (length xs))
+
+abbrev pub copyBuffer : List ℕ → List ℕ → List ℕ
+copyBuffer xs out = lentAfter (roomFault (length out) (length xs)) out (over xs out)
 
 abbrev pub textAnswer : Outcome Summary → List ℕ → Outcome ℕ
-textAnswer o out = unless (textFault o out) (answers (length (text o)))
+textAnswer o out = copyAnswer (text o) out
 
 abbrev pub textBuffer : Outcome Summary → List ℕ → List ℕ
-textBuffer o out = lentAfter (textFault o out) out (over (text o) out)
+textBuffer o out = copyBuffer (text o) out
 
 -- ---- the whole run: what is said of the input, as text in the output
 

@@ -4,7 +4,6 @@ use mathlib.Core.List.{List, [], _∷_, _++_}
 use mathlib.Core.Logic.{⊎-elim}
 use mathlib.Core.Path.{_≡_, refl, sym, ap, _∙_, subst}
 use Prim.Native.Nat.{ℕ, zero, suc, _+_, _-_, _*_, _/_, _%_, _^_, _≤_, _<_}
-
 use native.Mathlib.Nat.{pow-le-pow-right}
 use native.Mathlib.Omega.{arith}
 use lib.Dec.{ltb, lit<}
@@ -95,9 +94,9 @@ module _ (at : ℕ) (bytes o m : List ℕ) (i : ℕ) (w : SoFar at bytes o m i) 
       let s = written-more 0 at x (take i bytes) o m (w .front) (omega (arith, k)) in
       record {
         front =
-          subst (λ (ys : List ℕ). Written 0 at ys o (set m (at + i) x))
-          ((λ t. take i bytes ++ (e t ∷ [])) ∙ sym (take-suc bytes i 0 h) ∙ ap (λ (n : ℕ). take n bytes) (let z : suc i ≡ i + 1 = omega arith in z))
-          (subst (λ (n : ℕ). Written 0 at (take i bytes ++ (x ∷ [])) o (set m (at + n) x)) k s);
+            subst (λ (ys : List ℕ). Written 0 at ys o (set m (at + i) x))
+            ((λ t. take i bytes ++ (e t ∷ [])) ∙ sym (take-suc bytes i 0 h) ∙ ap (λ (n : ℕ). take n bytes) (let z : suc i ≡ i + 1 = omega arith in z))
+            (subst (λ (n : ℕ). Written 0 at (take i bytes ++ (x ∷ [])) o (set m (at + n) x)) k s);
         few = omega arith;
       }
 
@@ -132,11 +131,11 @@ module _ (at : ℕ) (ns o m : List ℕ) (i end : ℕ) (w : NumbersTo at ns o m i
   pub one-number : (p : List ℕ) (next : ℕ) → i < length ns → Put end (spaced (getD ns i 0)) m p next → NumbersTo at ns o p (i + 1) next
   one-number p next h q = record {
     front =
-      put-as at next _ _ o p
-      (ap (λ (xs : List ℕ). joinAll spaced (take i ns) ++ xs) (sym (join-one spaced (getD ns i 0)))
-      ∙ sym (join-append spaced (take i ns) (getD ns i 0 ∷ []))
-      ∙ ap (joinAll spaced) (sym (take-suc ns i 0 h) ∙ ap (λ (n : ℕ). take n ns) (let z : suc i ≡ i + 1 = omega arith in z)))
-      (put-then at end next (joinAll spaced (take i ns)) (spaced (getD ns i 0)) o m p (w .front) q);
+        put-as at next _ _ o p
+        (ap (λ (xs : List ℕ). joinAll spaced (take i ns) ++ xs) (sym (join-one spaced (getD ns i 0)))
+        ∙ sym (join-append spaced (take i ns) (getD ns i 0 ∷ []))
+        ∙ ap (joinAll spaced) (sym (take-suc ns i 0 h) ∙ ap (λ (n : ℕ). take n ns) (let z : suc i ≡ i + 1 = omega arith in z)))
+        (put-then at end next (joinAll spaced (take i ns)) (spaced (getD ns i 0)) o m p (w .front) q);
     few = omega arith;
   }
 

@@ -1,89 +1,73 @@
+-- `records::put_summary` meets its contract: one line after the other. Assumes nothing.
 use borrow.Author.Needs.{needs}
+use native.Mathlib.Omega.{arith}
+use mathlib.Core.List.{_∷_, [], _++_}
+use mathlib.Core.Path.{_∙_}
+use Rattle.text.specs.Text.{line}
+use Rattle.text.proofs.Laws.{put-then, line-most}
+use Rattle.records.specs.Records.{cellsWord, outsideWord, insideWord, surfaceWord, leftWord, scansWord}
 use Rattle.records.proofs.put_summary.Statement.{statement}
 use Rattle.records.proofs.put_summary.Tie as tie
-use Rattle.records.proofs.put_summary.Reads as reads
-use Rattle.records.proofs.put_summary.Lts as lts
-use Rattle.text.proofs.put_line.Reads as put-line-reads
 
--- src/lib.rt:31:36
 slice-aggregate-put-line : tie.Need-slice-aggregate-put-line
 slice-aggregate-put-line c = search needs
 
--- src/lib.rt:31:46
 slice-aggregate-put-line-2 : tie.Need-slice-aggregate-put-line-2
 slice-aggregate-put-line-2 c = search needs
 
--- src/lib.rt:31:9
 put-line-requires : tie.Need-put-line-requires
 put-line-requires c κs = search needs
 
--- src/lib.rt:32:36
 slice-aggregate-put-line-3 : tie.Need-slice-aggregate-put-line-3
 slice-aggregate-put-line-3 c = search needs
 
--- src/lib.rt:32:48
 slice-aggregate-put-line-4 : tie.Need-slice-aggregate-put-line-4
 slice-aggregate-put-line-4 c = search needs
 
--- src/lib.rt:32:9
 put-line-requires-2 : tie.Need-put-line-requires-2
-put-line-requires-2 c κs = ?
+put-line-requires-2 c κs = let n = c .before .before .before .before .before .before .before .before .before .before .before .args .n in omega (arith, c .before .before .before .before .before .before .before .before .before .before .before .pre, c .before .before .before .before .before .put-line .ensures .ends, c .before .before .before .before .before .put-line .ensures .written .size, line-most cellsWord (n .axes .r0 ∷ n .axes .r1 ∷ n .axes .r2 ∷ []))
 
--- src/lib.rt:33:36
 slice-aggregate-put-line-5 : tie.Need-slice-aggregate-put-line-5
 slice-aggregate-put-line-5 c = search needs
 
--- src/lib.rt:33:47
 slice-aggregate-put-line-6 : tie.Need-slice-aggregate-put-line-6
 slice-aggregate-put-line-6 c = search needs
 
--- src/lib.rt:33:9
 put-line-requires-3 : tie.Need-put-line-requires-3
-put-line-requires-3 c κs = ?
+put-line-requires-3 c κs = let n = c .before .before .before .before .before .before .before .before .before .before .before .before .before .before .before .before .before .args .n in omega (arith, c .before .before .before .before .before .before .before .before .before .before .before .before .before .before .before .before .before .pre, c .before .before .before .before .before .before .before .before .before .before .before .put-line .ensures .ends, c .before .before .before .before .before .before .before .before .before .before .before .put-line .ensures .written .size, line-most cellsWord (n .axes .r0 ∷ n .axes .r1 ∷ n .axes .r2 ∷ []), c .before .before .before .before .before .put-line2 .ensures .ends, c .before .before .before .before .before .put-line2 .ensures .written .size, line-most outsideWord (n .outside ∷ []))
 
--- src/lib.rt:34:36
 slice-aggregate-put-line-7 : tie.Need-slice-aggregate-put-line-7
 slice-aggregate-put-line-7 c = search needs
 
--- src/lib.rt:34:48
 slice-aggregate-put-line-8 : tie.Need-slice-aggregate-put-line-8
 slice-aggregate-put-line-8 c = search needs
 
--- src/lib.rt:34:9
 put-line-requires-4 : tie.Need-put-line-requires-4
-put-line-requires-4 c κs = ?
+put-line-requires-4 c κs = let n = c .before .before .before .before .before .before .before .before .before .before .before .before .before .before .before .before .before .before .before .before .before .before .before .args .n in omega (arith, c .before .before .before .before .before .before .before .before .before .before .before .before .before .before .before .before .before .before .before .before .before .before .before .pre, c .before .before .before .before .before .before .before .before .before .before .before .before .before .before .before .before .before .put-line .ensures .ends, c .before .before .before .before .before .before .before .before .before .before .before .before .before .before .before .before .before .put-line .ensures .written .size, line-most cellsWord (n .axes .r0 ∷ n .axes .r1 ∷ n .axes .r2 ∷ []), c .before .before .before .before .before .before .before .before .before .before .before .put-line2 .ensures .ends, c .before .before .before .before .before .before .before .before .before .before .before .put-line2 .ensures .written .size, line-most outsideWord (n .outside ∷ []), c .before .before .before .before .before .put-line3 .ensures .ends, c .before .before .before .before .before .put-line3 .ensures .written .size, line-most insideWord (n .inside ∷ []))
 
--- src/lib.rt:35:36
 slice-aggregate-put-line-9 : tie.Need-slice-aggregate-put-line-9
 slice-aggregate-put-line-9 c = search needs
 
--- src/lib.rt:35:45
 slice-aggregate-put-line-10 : tie.Need-slice-aggregate-put-line-10
 slice-aggregate-put-line-10 c = search needs
 
--- src/lib.rt:35:9
 put-line-requires-5 : tie.Need-put-line-requires-5
-put-line-requires-5 c κs = ?
+put-line-requires-5 c κs = let n = c .before .before .before .before .before .before .before .before .before .before .before .before .before .before .before .before .before .before .before .before .before .before .before .before .before .before .before .before .before .args .n in omega (arith, c .before .before .before .before .before .before .before .before .before .before .before .before .before .before .before .before .before .before .before .before .before .before .before .before .before .before .before .before .before .pre, c .before .before .before .before .before .before .before .before .before .before .before .before .before .before .before .before .before .before .before .before .before .before .before .put-line .ensures .ends, c .before .before .before .before .before .before .before .before .before .before .before .before .before .before .before .before .before .before .before .before .before .before .before .put-line .ensures .written .size, line-most cellsWord (n .axes .r0 ∷ n .axes .r1 ∷ n .axes .r2 ∷ []), c .before .before .before .before .before .before .before .before .before .before .before .before .before .before .before .before .before .put-line2 .ensures .ends, c .before .before .before .before .before .before .before .before .before .before .before .before .before .before .before .before .before .put-line2 .ensures .written .size, line-most outsideWord (n .outside ∷ []), c .before .before .before .before .before .before .before .before .before .before .before .put-line3 .ensures .ends, c .before .before .before .before .before .before .before .before .before .before .before .put-line3 .ensures .written .size, line-most insideWord (n .inside ∷ []), c .before .before .before .before .before .put-line4 .ensures .ends, c .before .before .before .before .before .put-line4 .ensures .written .size, line-most surfaceWord (n .surface ∷ []))
 
--- src/lib.rt:36:28
 slice-aggregate-put-line-11 : tie.Need-slice-aggregate-put-line-11
 slice-aggregate-put-line-11 c = search needs
 
--- src/lib.rt:36:38
 slice-aggregate-put-line-12 : tie.Need-slice-aggregate-put-line-12
 slice-aggregate-put-line-12 c = search needs
 
--- src/lib.rt:36:5
 put-line-requires-6 : tie.Need-put-line-requires-6
-put-line-requires-6 c κs = ?
+put-line-requires-6 c κs = let n = c .before .before .before .before .before .before .before .before .before .before .before .before .before .before .before .before .before .before .before .before .before .before .before .before .before .before .before .before .before .before .before .before .before .before .before .args .n in omega (arith, c .before .before .before .before .before .before .before .before .before .before .before .before .before .before .before .before .before .before .before .before .before .before .before .before .before .before .before .before .before .before .before .before .before .before .before .pre, c .before .before .before .before .before .before .before .before .before .before .before .before .before .before .before .before .before .before .before .before .before .before .before .before .before .before .before .before .before .put-line .ensures .ends, c .before .before .before .before .before .before .before .before .before .before .before .before .before .before .before .before .before .before .before .before .before .before .before .before .before .before .before .before .before .put-line .ensures .written .size, line-most cellsWord (n .axes .r0 ∷ n .axes .r1 ∷ n .axes .r2 ∷ []), c .before .before .before .before .before .before .before .before .before .before .before .before .before .before .before .before .before .before .before .before .before .before .before .put-line2 .ensures .ends, c .before .before .before .before .before .before .before .before .before .before .before .before .before .before .before .before .before .before .before .before .before .before .before .put-line2 .ensures .written .size, line-most outsideWord (n .outside ∷ []), c .before .before .before .before .before .before .before .before .before .before .before .before .before .before .before .before .before .put-line3 .ensures .ends, c .before .before .before .before .before .before .before .before .before .before .before .before .before .before .before .before .before .put-line3 .ensures .written .size, line-most insideWord (n .inside ∷ []), c .before .before .before .before .before .before .before .before .before .before .before .put-line4 .ensures .ends, c .before .before .before .before .before .before .before .before .before .before .before .put-line4 .ensures .written .size, line-most surfaceWord (n .surface ∷ []), c .before .before .before .before .before .put-line5 .ensures .ends, c .before .before .before .before .before .put-line5 .ensures .written .size, line-most leftWord (n .left ∷ []))
 
--- src/lib.rt:20:1
 same-length : tie.Need-same-length
-same-length c = ?
+same-length c = c .before .before .put-line6 .ensures .written .size ∙ c .before .before .before .before .before .before .before .before .put-line5 .ensures .written .size ∙ c .before .before .before .before .before .before .before .before .before .before .before .before .before .before .put-line4 .ensures .written .size ∙ c .before .before .before .before .before .before .before .before .before .before .before .before .before .before .before .before .before .before .before .before .put-line3 .ensures .written .size ∙ c .before .before .before .before .before .before .before .before .before .before .before .before .before .before .before .before .before .before .before .before .before .before .before .before .before .before .put-line2 .ensures .written .size ∙ c .before .before .before .before .before .before .before .before .before .before .before .before .before .before .before .before .before .before .before .before .before .before .before .before .before .before .before .before .before .before .before .before .put-line .ensures .written .size
 
--- src/lib.rt:20:1
 returns : tie.Need-returns
-returns c = ?
+returns c = let n = c .before .before .before .before .before .before .before .before .before .before .before .before .before .before .before .before .before .before .before .before .before .before .before .before .before .before .before .before .before .before .before .before .before .before .before .before .before .before .args .n in put-then 0 _ _ (line cellsWord (n .axes .r0 ∷ n .axes .r1 ∷ n .axes .r2 ∷ []) ++ line outsideWord (n .outside ∷ []) ++ line insideWord (n .inside ∷ []) ++ line surfaceWord (n .surface ∷ []) ++ line leftWord (n .left ∷ [])) (line scansWord (n .scans ∷ [])) _ _ _ (put-then 0 _ _ (line cellsWord (n .axes .r0 ∷ n .axes .r1 ∷ n .axes .r2 ∷ []) ++ line outsideWord (n .outside ∷ []) ++ line insideWord (n .inside ∷ []) ++ line surfaceWord (n .surface ∷ [])) (line leftWord (n .left ∷ [])) _ _ _ (put-then 0 _ _ (line cellsWord (n .axes .r0 ∷ n .axes .r1 ∷ n .axes .r2 ∷ []) ++ line outsideWord (n .outside ∷ []) ++ line insideWord (n .inside ∷ [])) (line surfaceWord (n .surface ∷ [])) _ _ _ (put-then 0 _ _ (line cellsWord (n .axes .r0 ∷ n .axes .r1 ∷ n .axes .r2 ∷ []) ++ line outsideWord (n .outside ∷ [])) (line insideWord (n .inside ∷ [])) _ _ _ (put-then 0 _ _ (line cellsWord (n .axes .r0 ∷ n .axes .r1 ∷ n .axes .r2 ∷ [])) (line outsideWord (n .outside ∷ [])) _ _ _ (c .before .before .before .before .before .before .before .before .before .before .before .before .before .before .before .before .before .before .before .before .before .before .before .before .before .before .before .before .before .before .before .before .put-line .ensures) (c .before .before .before .before .before .before .before .before .before .before .before .before .before .before .before .before .before .before .before .before .before .before .before .before .before .before .put-line2 .ensures)) (c .before .before .before .before .before .before .before .before .before .before .before .before .before .before .before .before .before .before .before .before .put-line3 .ensures)) (c .before .before .before .before .before .before .before .before .before .before .before .before .before .before .put-line4 .ensures)) (c .before .before .before .before .before .before .before .before .put-line5 .ensures)) (c .before .before .put-line6 .ensures)
 
 pub put-summary-spec : {M : Type 1} → statement M
 put-summary-spec =
