@@ -40,13 +40,20 @@ same-length : tie.Need-same-length
 same-length c = search needs
 
 returns : tie.Need-returns
-returns c = let k = c .before .before .before .before .before in let a = c .before .before .before .before .before .before .before .before in absurd (filled (a .args .mode) (a .args .r) (a .args .labels .now) _ _ _ (a .pre) (k .fill .ensures .0) (c .before .f .given .1))
+returns c =
+    let k = c .before .before .before .before .before in
+    let a = c .before .before .before .before .before .before .before .before in
+    absurd (filled (a .args .mode) (a .args .r) (a .args .labels .now) _ _ _ (a .pre) (k .fill .ensures .0) (c .before .f .given .1))
 
 same-length-2 : tie.Need-same-length-2
 same-length-2 c = search needs
 
 returns-2 : tie.Need-returns-2
-returns-2 c = let k = c .before .before .before .before .before .before .before .before .before .before .before in let a = c .before .before .before .before .before .before .before .before .before .before .before .before .before .before in let n = c .before .before .before .before .before .before .before .n .given .0 .0 in record { labels = _; counts = n; filled = filled (a .args .mode) (a .args .r) (a .args .labels .now) _ _ _ (a .pre) (k .fill .ensures .0) (c .before .before .before .before .before .before .before .n .given .1); is = λ i. answers (record { axes = a .args .r; outside = c .before .before .before .before .count-label .ensures i; inside = c .before .before .count-label2 .ensures i; surface = c .count-label3 .ensures i; left = n .left; scans = n .scans }) }
+returns-2 c =
+    let k = c .before .before .before .before .before .before .before .before .before .before .before in
+    let a = c .before .before .before .before .before .before .before .before .before .before .before .before .before .before in
+    let n = c .before .before .before .before .before .before .before .n .given .0 .0 in
+    record { labels = _; counts = n; filled = filled (a .args .mode) (a .args .r) (a .args .labels .now) _ _ _ (a .pre) (k .fill .ensures .0) (c .before .before .before .before .before .before .before .n .given .1); is = λ i. answers (record { axes = a .args .r; outside = c .before .before .before .before .count-label .ensures i; inside = c .before .before .count-label2 .ensures i; surface = c .count-label3 .ensures i; left = n .left; scans = n .scans }) }
 
 pub tally-spec : {M : Type 1} → statement M
 tally-spec =
