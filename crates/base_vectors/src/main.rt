@@ -16,7 +16,7 @@ fn floats(s: &[u8], at: usize) -> [f32; 12]
     let mut out = [0.0f32; 12];
     let mut i = 0usize;
     while i < 12 {
-        out[i] = replay::float_of(replay::word(s, at + 12 + 4 * i));
+        out[i] = words::float_of(words::word(s, at + 12 + 4 * i));
         i += 1;
     }
     out
@@ -26,12 +26,12 @@ fn floats(s: &[u8], at: usize) -> [f32; 12]
 fn size_case(s: &[u8], at: usize)
     requires { ⌜ at + 60 ≤ length (now s) ⌝ }
 {
-    let way = replay::word(s, at);
-    let value = replay::word(s, at + 4);
-    let n = replay::at_most(replay::word(s, at + 8) as usize, 12);
+    let way = words::word(s, at);
+    let value = words::word(s, at + 4);
+    let n = replay::at_most(words::word(s, at + 8) as usize, 12);
     let points = floats(s, at);
     if way == 0 {
-        replay::sized(sizing::by_size(&points[..n], replay::float_of(value)));
+        replay::sized(sizing::by_size(&points[..n], words::float_of(value)));
     } else {
         replay::sized(sizing::by_resolution(&points[..n], value));
     }
@@ -39,7 +39,7 @@ fn size_case(s: &[u8], at: usize)
 
 // Rounding (2): the ceiling, the truncation, the parts of a side.
 fn rounding_case(bits: u32) {
-    let x = replay::float_of(bits);
+    let x = words::float_of(bits);
     replay::whole(numbers::ceil(x));
     replay::whole(numbers::trunc(x));
     replay::whole(numbers::to_parts(x));
@@ -57,10 +57,10 @@ fn many_case(count: u32) {
 fn grid_case(s: &[u8], at: usize)
     requires { ⌜ at + 60 ≤ length (now s) ⌝ }
 {
-    let len = replay::word(s, at + 4) as usize;
-    let r0 = replay::word(s, at + 12) as usize;
-    let r1 = replay::word(s, at + 16) as usize;
-    let r2 = replay::word(s, at + 20) as usize;
+    let len = words::word(s, at + 4) as usize;
+    let r0 = words::word(s, at + 12) as usize;
+    let r1 = words::word(s, at + 16) as usize;
+    let r2 = words::word(s, at + 20) as usize;
     replay::checked(grid::grid_fault(Axes { r0, r1, r2 }, len));
 }
 
@@ -81,8 +81,8 @@ fn set_of(ends: u32) -> LabelSet {
 fn labels_case(s: &[u8], at: usize)
     requires { ⌜ at + 60 ≤ length (now s) ⌝ }
 {
-    let set = set_of(replay::word(s, at + 4));
-    let n = replay::at_most(replay::word(s, at + 8) as usize, 48);
+    let set = set_of(words::word(s, at + 4));
+    let n = replay::at_most(words::word(s, at + 8) as usize, 48);
     let from = at + 12;
     let to = from + n;
     replay::checked(grid::labels_fault(&s[from..to], set));
@@ -91,17 +91,17 @@ fn labels_case(s: &[u8], at: usize)
 fn one_case(s: &[u8], at: usize)
     requires { ⌜ at + 60 ≤ length (now s) ⌝ }
 {
-    let kind = replay::word(s, at);
+    let kind = words::word(s, at);
     if kind < 2 {
         size_case(s, at);
         return;
     }
     if kind == 2 {
-        rounding_case(replay::word(s, at + 4));
+        rounding_case(words::word(s, at + 4));
         return;
     }
     if kind == 3 {
-        many_case(replay::word(s, at + 4));
+        many_case(words::word(s, at + 4));
         return;
     }
     if kind == 4 {

@@ -50,9 +50,9 @@ fn box_case(s: &[u8], at: usize, row: Row)
     let labels = stored::labels(s, row);
     let r = stored::axes_of(s, at);
     let place = stored::placement_of(s, at + 12);
-    let label = (replay::word(s, at + 32) % 256) as u8;
-    let n = replay::at_most(replay::word(s, at + 52) as usize, 196620);
-    let m = replay::at_most(replay::word(s, at + 56) as usize, 196620);
+    let label = (words::word(s, at + 32) % 256) as u8;
+    let n = replay::at_most(words::word(s, at + 52) as usize, 196620);
+    let m = replay::at_most(words::word(s, at + 56) as usize, 196620);
     let cells = replay::at_most(row.length, 65536);
     with_outputs(&labels[..cells], r, place, label, n, m);
 }

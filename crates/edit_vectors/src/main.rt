@@ -170,10 +170,10 @@ fn report_one(e: Editing, labels: &[u8]) {
 fn listed_edit(s: &[u8], at: usize, labels: &mut [u8], r: Axes)
     requires { ⌜ at + 16 ≤ length (now s) ⌝ }
 {
-    let i = replay::word(s, at + 4) as usize;
-    let j = replay::word(s, at + 8) as usize;
-    let k = replay::word(s, at + 12) as usize;
-    let e = edited(replay::word(s, at), labels, r, Cell { i, j, k });
+    let i = words::word(s, at + 4) as usize;
+    let j = words::word(s, at + 8) as usize;
+    let k = words::word(s, at + 12) as usize;
+    let e = edited(words::word(s, at), labels, r, Cell { i, j, k });
     report_one(e, labels);
 }
 
@@ -275,13 +275,13 @@ fn performed(s: &[u8], at: usize, from: usize, labels: &mut [u8], r: Axes) -> us
     requires { ⌜ (at + 44 ≤ from) × (from ≤ length (now s)) ⌝ }
     ensures { λ e. ⌜ (from ≤ e) × (e ≤ length (now (s .entry))) ⌝ }
 {
-    let way = replay::word(s, at + 32);
-    let count = replay::word(s, at + 36) as usize;
+    let way = words::word(s, at + 32);
+    let count = words::word(s, at + 36) as usize;
     if way == 0 {
         return listed(s, from, count, labels, r);
     }
     if way == 1 {
-        report(random_edits(replay::word(s, at + 40), count, labels, r));
+        report(random_edits(words::word(s, at + 40), count, labels, r));
         return from;
     }
     report(each_cell(labels, r));
@@ -293,7 +293,7 @@ fn flooded_and_performed(s: &[u8], at: usize, from: usize, labels: &mut [u8], r:
     requires { ⌜ (at + 44 ≤ from) × (from ≤ length (now s)) ⌝ }
     ensures { λ e. ⌜ (from ≤ e) × (e ≤ length (now (s .entry))) ⌝ }
 {
-    if replay::word(s, at) < 2 {
+    if words::word(s, at) < 2 {
         fill::fill(labels, r, Mode::Flood);
         return performed(s, at, from, labels, r);
     }
@@ -422,10 +422,10 @@ fn random_case(s: &[u8], at: usize, n: usize, r: Axes) -> usize
     requires { ⌜ (at + 44 ≤ length (now s)) × (n ≤ 65536) ⌝ }
     ensures { λ e. ⌜ (at + 44 ≤ e) × (e ≤ length (now (s .entry))) ⌝ }
 {
-    let kind = replay::word(s, at);
-    let a = replay::word(s, at + 20);
-    let b = replay::word(s, at + 24);
-    let c = replay::word(s, at + 28);
+    let kind = words::word(s, at);
+    let a = words::word(s, at + 20);
+    let b = words::word(s, at + 24);
+    let c = words::word(s, at + 28);
     one_grid(s, at, at + 44, random(kind, a, b, c, n), n, r)
 }
 
@@ -440,16 +440,16 @@ fn pattern_case(s: &[u8], at: usize, len: usize, r: Axes) -> usize
     if s.len() - from < size {
         return s.len();
     }
-    report(pattern_grids(s, from, n, replay::word(s, at + 20) as usize, r));
+    report(pattern_grids(s, from, n, words::word(s, at + 20) as usize, r));
     from + size
 }
 
 fn axes_of(s: &[u8], at: usize) -> Axes
     requires { ⌜ at + 44 ≤ length (now s) ⌝ }
 {
-    let r0 = replay::word(s, at + 4) as usize;
-    let r1 = replay::word(s, at + 8) as usize;
-    let r2 = replay::word(s, at + 12) as usize;
+    let r0 = words::word(s, at + 4) as usize;
+    let r1 = words::word(s, at + 8) as usize;
+    let r2 = words::word(s, at + 12) as usize;
     Axes { r0, r1, r2 }
 }
 
@@ -458,8 +458,8 @@ fn one_case(s: &[u8], at: usize) -> usize
     requires { ⌜ at + 44 ≤ length (now s) ⌝ }
     ensures { λ e. ⌜ (at + 44 ≤ e) × (e ≤ length (now (s .entry))) ⌝ }
 {
-    let kind = replay::word(s, at);
-    let n = replay::at_most(replay::word(s, at + 16) as usize, 65536);
+    let kind = words::word(s, at);
+    let n = replay::at_most(words::word(s, at + 16) as usize, 65536);
     let r = axes_of(s, at);
     if kind == 0 {
         return bits_case(s, at, n, r);

@@ -212,17 +212,17 @@ fn bytes_case(s: &[u8], from: usize, n: usize, r: Axes) -> usize
 fn axes_of(s: &[u8], at: usize) -> Axes
     requires { ⌜ at + 28 ≤ length (now s) ⌝ }
 {
-    let r0 = replay::word(s, at + 4) as usize;
-    let r1 = replay::word(s, at + 8) as usize;
-    let r2 = replay::word(s, at + 12) as usize;
+    let r0 = words::word(s, at + 4) as usize;
+    let r1 = words::word(s, at + 8) as usize;
+    let r2 = words::word(s, at + 12) as usize;
     Axes { r0, r1, r2 }
 }
 
 fn random_case(s: &[u8], at: usize, n: usize, r: Axes)
     requires { ⌜ (at + 28 ≤ length (now s)) × (n ≤ 65536) ⌝ }
 {
-    let a = replay::word(s, at + 20);
-    let b = replay::word(s, at + 24);
+    let a = words::word(s, at + 20);
+    let b = words::word(s, at + 24);
     each_mode(random(a, b, n), n, r);
 }
 
@@ -231,8 +231,8 @@ fn one_case(s: &[u8], at: usize) -> usize
     requires { ⌜ at + 28 ≤ length (now s) ⌝ }
     ensures { λ e. ⌜ (at + 28 ≤ e) × (e ≤ length (now (s .entry))) ⌝ }
 {
-    let kind = replay::word(s, at);
-    let n = replay::at_most(replay::word(s, at + 16) as usize, 65536);
+    let kind = words::word(s, at);
+    let n = replay::at_most(words::word(s, at + 16) as usize, 65536);
     let r = axes_of(s, at);
     if kind == 0 {
         return bits_case(s, at + 28, n, r);

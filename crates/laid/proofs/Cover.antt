@@ -38,7 +38,7 @@ abbrev pub inverse : Float → Float
 inverse s = div binary32 (fin false 1 (pos 0)) s
 
 -- it is near the exact one
-over-near : (s : Float) → T (plain s) → den s ≤ 2 ^ 20 * num s → 0 < num s → Near (inverse s) (den s) (num s)
+pub over-near : (s : Float) → T (plain s) → den s ≤ 2 ^ 20 * num s → 0 < num s → Near (inverse s) (den s) (num s)
 over-near s p h k =
     subst (λ (z : Float). Near z (den s) (num s))
     (sym (div-is (fin false 1 (pos 0)) s tt p k ∙ (λ t. round binary32 false (one-mul (den s) t) (mul-one (num s) t))))

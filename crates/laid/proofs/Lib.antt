@@ -1,3 +1,4 @@
 pub mod Near
 pub mod Cover
 pub mod Own
+pub mod Lent

@@ -11,12 +11,13 @@ use lib.Dec.{T, ltb, leb, eqb, lit≤, lit<}
 use lib.IntN.{ℤ, pos, negℤ}
 use lib.Ieee.{Float, nan, inf, fin, binary32, up, down, size, sub, mul, div, lt, le, ofInt}
 use lib.Ieee.Fits.{down-pos}
-use lib.Ieee.Exact.{HasValue}
+use lib.Ieee.Exact.{HasValue, round-exact}
+use lib.Pow.{pow-pos}
 use lib.Ieee.Back.{round-whole}
 use lib.Ieee.Scale.{finite, round-same}
-use lib.Ieee.Positive.{num, den, den-pos, positive, between, above, above-of-le, le→cross, value→cross}
+use lib.Ieee.Positive.{num, den, den-pos, first-pos, positive, between, above, above-of-le, le→cross, value→cross}
 use borrow.Author.Needs.{zero≤}
-use borrow.Author.Tests.{leb-true, not-false}
+use borrow.Author.Tests.{lt-ltb, leb-true, not-false}
 use Rattle.grid.specs.declared.Checked.the-variants.{Fine}
 use Rattle.grid.specs.Answers.{answers, _andThen_}
 use Rattle.grid.proofs.Checks.{passed, both-fine, answered}
@@ -30,7 +31,7 @@ use Rattle.sizing.specs.Sizing.{Laid, points, coord, extent, spansOf, leastSize
 use Rattle.sizing.proofs.Laws.{whole-points, some-point, all-bounded, resolution-fine}
 use Rattle.sizing.proofs.Extremes.{Spanned, x-spanned, y-spanned, z-spanned}
 use Rattle.sizing.proofs.Ranges.{is-laid, of-main, extent-finite, extents, main-largest, size-counts}
-use Rattle.sizing.proofs.Ratio.{Extent, whole-part}
+use Rattle.sizing.proofs.Ratio.{Extent, Exact, Capped, round-capped, whole-part}
 use Rattle.grid.specs.declared.Axes.{Axes}
 use Rattle.grid.specs.declared.Placement.{Placement}
 use Rattle.grid.proofs.Checks.{first-fine}
@@ -56,11 +57,17 @@ none-covered s d n (k, e) = rw e (le-trans (le-of-eq (none (up k) (den s))) zero
     none a b = omega arith
 
 -- a number above 0 is plain
-positive-plain : (x : Float) → T (positive x) → T (plain x)
+pub positive-plain : (x : Float) → T (positive x) → T (plain x)
 positive-plain nan p = absurd p
 positive-plain (inf s) p = absurd p
 positive-plain (fin true m e) p = absurd p
 positive-plain (fin false m e) p = tt
+
+pub plain-positive : (x : Float) → T (plain x) → 0 < num x → T (positive x)
+plain-positive nan p h = absurd p
+plain-positive (inf s) p h = absurd p
+plain-positive (fin true m e) p h = absurd p
+plain-positive (fin false m e) p h = subst T (sym (lt-ltb 0 m (first-pos m (up e) h))) tt
 
 -- a / c rounded to k / p, which is at most n: a / c is little over n
 ratio-under : (n a c k p : ℕ) → n ≤ 255 → 0 < p → k ≤ n * p → a * 2 ^ 40 * p ≤ k * c * 2 ^ 40 + (a * 2 ^ 20 + c) * p → a * 2 ^ 10 ≤ (n * 2 ^ 10 + 1) * c
@@ -233,8 +240,8 @@ module _ {r m o s q : ℕ} (w : Quotient r m o s q) where
   little-over : m * q * 2 ^ 19 ≤ r * s * o * 2 ^ 19 + m * q
   little-over = let a = mul-le-mul-right (o * q) (w .r-most) in let b = mul-le-mul-right q (w .least) in omega (arith, w .under)
 
-  -- s / q is 2 ^ -20 at least, and 2 ^ 22 at most
-  scale-least : q ≤ 2 ^ 20 * s
+  -- s / q is 2 ^ -18 at least, and 2 ^ 22 at most
+  scale-least : q ≤ 2 ^ 18 * s
   scale-least = let a = mul-le-mul-right (s * o) (w .r-most) in let b = mul-le-mul-right s (w .least) in le-of-mul-le-mul-right {k = m} (omega (arith, little-over)) (w .m-some)
 
   scale-most : s ≤ 2 ^ 22 * q
@@ -296,6 +303,13 @@ main-positive m M k =
     let p = above-positive m (above-of-le leastExtent m tt l) f in
     (p, le→cross leastExtent m tt p l)
 
+-- 2 ^ 21 is a value of the format
+exact-21 : Exact (2 ^ 21) 1
+exact-21 = round-exact binary32 false (2 ^ 21) 1 1 170 (pow-pos 0) (lit< tt) (lit< tt) refl
+
+at-cap : (x : Float) (b : ℕ) → Capped x b 1 → num x ≤ b * den x
+at-cap x b w = subst (λ (y : Float). num y ≤ b * den y) (sym (w .is)) (omega (arith, w .most))
+
 -- the scale s, the main axis's extent m over q, and an extent d of at most m
 module _ (q r : ℕ) (one-more : r ≡ suc q) (some : 1 ≤ q) (Q : q ≤ 253) (d m : Float) (D : Extent d) (M : Extent m) (h : le d m ≡ true) (k : lt m leastExtent ≡ false) where
   R : r ≤ 254
@@ -319,10 +333,26 @@ module _ (q r : ℕ) (one-more : r ≡ suc q) (some : 1 ≤ q) (Q : q ≤ 253) (
   s-quotient : Quotient q (num m) (den m) (num s) (den s)
   s-quotient = record { r-some = some; r-most = Q; m-some = m-some; o-some = den-pos m; least = m-least; most = extent-most m M; over = s-near .over; under = s-near .under }
 
+  -- s itself: 2 ^ -18 at least, and, being rounded from at most 2 ^ 21, 2 ^ 21 at most
+  pub main-plain : T (plain s)
+  main-plain = s-near .is-plain
+
+  pub main-least : den s ≤ 2 ^ 18 * num s
+  main-least = scale-least s-quotient
+
+  pub main-most : num s ≤ 2 ^ 21 * den s
+  main-most =
+      let c = countOf q in
+      let C : 0 < num c = subst (λ (n : ℕ). 0 < n) (sym (count-is q (omega (arith, Q)))) (mul-pos some (den-pos c)) in
+      let l = mul-le-mul-right (den c) some in
+      let a = mul-le-mul (extent-most m M) l in
+      let h : num m * den c * 1 ≤ 2 ^ 21 * (num c * den m) = rw (count-is q (omega (arith, Q))) (omega arith) in
+      at-cap s (2 ^ 21) (subst (λ (x : Float). Capped x (2 ^ 21) 1) (sym (div-is m c m-plain (count-plain q (omega (arith, Q))) C)) (round-capped (num m * den c) (num c * den m) (2 ^ 21) 1 (mul-pos C (den-pos m)) (lit< tt) h exact-21))
+
   -- d needs cells only where it has no sign
   covered : (n : ℕ) → n ≤ 255 → (T (plain d) → num d * den s * 8 ≤ (8 * n + 1) * (num s * den d)) → Scale s d n
   covered n N c =
-      record { is-plain = s-near .is-plain; least = scale-least s-quotient; most = scale-most s-quotient; few = N; covers = ⊎-elim c (none-covered s d n) (extent-kinds d D) }
+      record { is-plain = s-near .is-plain; least = omega (arith, scale-least s-quotient); most = scale-most s-quotient; few = N; covers = ⊎-elim c (none-covered s d n) (extent-kinds d D) }
 
   -- q + 1 cells cover the main axis's extent, so any
   main-scale : Scale s d q

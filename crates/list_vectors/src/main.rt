@@ -140,8 +140,8 @@ fn range_case(s: &[u8], at: usize, l: Lists)
     requires { ⌜ (l .triangles .from + 4 * (l .triangles .stored) ≤ length (now s)) × (l .triangles .length ≤ 196620) ⌝ }
 {
     let list = stored::words(s, l.triangles);
-    let start = replay::word(s, at + 4);
-    let end = replay::word(s, at + 8);
+    let start = words::word(s, at + 4);
+    let end = words::word(s, at + 8);
     range_and_report(&list[..l.triangles.length], start, end);
 }
 
@@ -175,9 +175,9 @@ fn one_case(s: &[u8], at: usize) -> usize
     if s.len() < next {
         return s.len();
     }
-    let kind = replay::word(s, at);
-    let n = replay::at_most(replay::word(s, at + 84) as usize, 196620);
-    let m = replay::at_most(replay::word(s, at + 88) as usize, 196620);
+    let kind = words::word(s, at);
+    let n = replay::at_most(words::word(s, at + 84) as usize, 196620);
+    let m = replay::at_most(words::word(s, at + 88) as usize, 196620);
     if kind == 0 {
         pairs_case(s, at, l, n, m);
         return next;

@@ -16,7 +16,7 @@ fn floats(s: &[u8], at: usize, n: usize) -> [f32; 192]
     let mut out = [0.0f32; 192];
     let mut i = 0usize;
     while i < n {
-        out[i] = replay::float_of(replay::word(s, at + 4 * i));
+        out[i] = words::float_of(words::word(s, at + 4 * i));
         i += 1;
     }
     out
@@ -29,7 +29,7 @@ fn words(s: &[u8], at: usize, n: usize) -> [u32; 192]
     let mut out = [0u32; 192];
     let mut i = 0usize;
     while i < n {
-        out[i] = replay::word(s, at + 4 * i);
+        out[i] = words::word(s, at + 4 * i);
         i += 1;
     }
     out
@@ -84,20 +84,20 @@ fn marked(points: &[f32], triangles: &[u32], r: Axes, at: Placement, len: usize)
 fn axes_of(s: &[u8], at: usize) -> Axes
     requires { ⌜ at + 44 ≤ length (now s) ⌝ }
 {
-    let r0 = replay::word(s, at + 8) as usize;
-    let r1 = replay::word(s, at + 12) as usize;
-    let r2 = replay::word(s, at + 16) as usize;
+    let r0 = words::word(s, at + 8) as usize;
+    let r1 = words::word(s, at + 12) as usize;
+    let r2 = words::word(s, at + 16) as usize;
     Axes { r0, r1, r2 }
 }
 
 fn placement_of(s: &[u8], at: usize) -> Placement
     requires { ⌜ at + 44 ≤ length (now s) ⌝ }
 {
-    let x = replay::float_of(replay::word(s, at + 20));
-    let y = replay::float_of(replay::word(s, at + 24));
-    let z = replay::float_of(replay::word(s, at + 28));
-    let scale = replay::float_of(replay::word(s, at + 32));
-    let reciprocal = replay::float_of(replay::word(s, at + 36));
+    let x = words::float_of(words::word(s, at + 20));
+    let y = words::float_of(words::word(s, at + 24));
+    let z = words::float_of(words::word(s, at + 28));
+    let scale = words::float_of(words::word(s, at + 32));
+    let reciprocal = words::float_of(words::word(s, at + 36));
     Placement {
         x,
         y,
@@ -121,7 +121,7 @@ fn long_case(s: &[u8], at: usize, p: usize, t: usize)
         &triangles[..nt],
         r,
         place,
-        replay::word(s, at + 40) as usize,
+        words::word(s, at + 40) as usize,
     );
 }
 
@@ -138,7 +138,7 @@ fn stored_case(s: &[u8], at: usize, p: usize, t: usize)
         &triangles[..t],
         r,
         place,
-        replay::word(s, at + 40) as usize,
+        words::word(s, at + 40) as usize,
     );
 }
 
@@ -147,8 +147,8 @@ fn one_case(s: &[u8], at: usize) -> usize
     requires { ⌜ at + 44 ≤ length (now s) ⌝ }
     ensures { λ n. ⌜ (at + 44 ≤ n) × (n ≤ length (now (s .entry))) ⌝ }
 {
-    let p = replay::word(s, at) as usize;
-    let t = replay::word(s, at + 4) as usize;
+    let p = words::word(s, at) as usize;
+    let t = words::word(s, at + 4) as usize;
     if (192 < p) | (192 < t) {
         long_case(s, at, p, t);
         return at + 44;

@@ -1,12 +1,12 @@
 -- Laws of specs/Output.antt: writing nothing, one number, one list and then another; and what stands at the front. And of one check after another. Assumes nothing.
 use mathlib.Core.Logic.{_⊎_, inl, inr, ⊎-elim}
-use mathlib.Core.Path.{_≡_, refl, sym, ap, _∙_}
+use mathlib.Core.Path.{_≡_, refl, sym, ap, _∙_, subst}
 use mathlib.Core.List.{List, [], _∷_, _++_}
 use Prim.Native.Nat.{ℕ, _+_, _-_, _≤_, _<_}
 use native.Mathlib.Omega.{arith}
 use lib.Dec.{T, ltb}
-use lib.ListN.{length, getD, drop, set, length-append, length-drop, length-set, List·getD-append}
-use lib.Seq.{getD-set-same, getD-set-other, getD-append-add, getD-drop, ext-getD}
+use lib.ListN.{length, getD, take, drop, set, length-append, length-drop, length-set, List·getD-append}
+use lib.Seq.{getD-set-same, getD-set-other, getD-append-add, getD-drop, getD-take, length-take-le, ext-getD}
 use borrow.Author.Tests.{ltb-false}
 use Rattle.grid.specs.declared.Checked.{Checked}
 use Rattle.grid.specs.declared.Checked.the-variants.{Fine, Fault}
@@ -97,6 +97,26 @@ module _ {A : Type 0} (d : A) where
       (λ g. a .others n (inr (omega arith)) ∙ sym (over-past xs o n g))
       (λ g. ap (λ (k : ℕ). getD m k d) (let e : n ≡ 0 + n = omega arith in e) ∙ a .there n g ∙ sym (over-front xs o n g))
       (le-or-lt (length xs) n))
+
+  -- and what stands in front of it is as it was
+  pub front-written : (at : ℕ) (xs o m : List A) → at + length xs ≤ length o → Written d at xs o m → take (at + length xs) m ≡ take at o ++ xs
+  front-written at xs o m h a =
+      ext-getD d (take (at + length xs) m) (take at o ++ xs)
+      (let e = length-take-le (at + length xs) m (omega (arith, a .size)) in omega (arith, e, length-append (take at o) xs, front))
+      (λ n l.
+      let l : n < at + length xs = subst (λ (k : ℕ). n < k) (length-take-le (at + length xs) m (omega (arith, a .size))) l in
+      getD-take (at + length xs) m n d l
+      ∙ ⊎-elim
+      (λ g.
+      ap (λ (k : ℕ). getD m k d) (let e : n ≡ at + (n - at) = omega arith in e)
+      ∙ a .there (n - at) (omega arith)
+      ∙ ap (λ (k : ℕ). getD xs k d) (let e : n - at ≡ n - length (take at o) = omega (arith, front) in e)
+      ∙ sym (append-right d (take at o) xs n (omega (arith, front))))
+      (λ g. a .others n (inl g) ∙ sym (getD-take at o n d g) ∙ sym (append-left d (take at o) xs n (omega (arith, front))))
+      (le-or-lt at n))
+    where
+      front : length (take at o) ≡ at
+      front = length-take-le at o (omega arith)
 
 -- ---- one check and then another
 

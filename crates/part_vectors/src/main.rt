@@ -118,7 +118,7 @@ fn split_case(s: &[u8], at: usize, l: Lists, n: usize, m: usize)
 {
     let ps = stored::floats(s, l.one);
     let axis = stored::wide(s, at + 4);
-    let d = replay::float_of(replay::word(s, at + 44));
+    let d = words::float_of(words::word(s, at + 44));
     split_to(&ps[..l.one.length], axis, d, n, m);
 }
 
@@ -146,9 +146,9 @@ fn one_case(s: &[u8], at: usize) -> usize
     if s.len() < next {
         return s.len();
     }
-    let kind = replay::word(s, at);
-    let n = replay::at_most(replay::word(s, at + 96) as usize, 196620);
-    let m = replay::at_most(replay::word(s, at + 100) as usize, 196620);
+    let kind = words::word(s, at);
+    let n = replay::at_most(words::word(s, at + 96) as usize, 196620);
+    let m = replay::at_most(words::word(s, at + 100) as usize, 196620);
     if kind == 0 {
         classes_case(s, at, l, n);
         return next;

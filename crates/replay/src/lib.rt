@@ -1,39 +1,14 @@
-// What the test programs share: words of a stored input, and answers written as text. The text is
+// What the test programs share: made input, and answers written as text. The text is
 // tested by the programs' runs; here it is only proved that nothing faults.
 ghost use mathlib.Core.Path.{_≡_};
 ghost use Prim.Native.Nat.{_+_, _*_, _≤_};
-ghost use lib.Ieee.{binary32, ofBits};
 ghost use lib.ListN.{length};
-ghost use Rattle.replay.specs.Words.{wordAt};
 use grid::Checked;
 use libc::STDOUT_FILENO;
 use numbers::Whole;
 use sizing::Sized;
 
 // ---- input
-
-// Four bytes as one number, the lowest first.
-pub fn word(s: &[u8], at: usize) -> u32
-    requires { ⌜ at + 4 ≤ length (now s) ⌝ }
-    ensures { λ r. ⌜ r ≡ wordAt (now (s .entry)) at ⌝ }
-{
-    (s[at] as u32)
-        + 256 * (s[at + 1] as u32)
-        + 65536 * (s[at + 2] as u32)
-        + 16777216 * (s[at + 3] as u32)
-}
-
-// The float of a bit pattern, every NaN's too.
-pub fn float_of(bits: u32) -> f32
-    ensures { λ r. ⌜ r ≡ ofBits binary32 bits ⌝ }
-{
-    let field = bits % 2147483648 / 8388608;
-    let digits = bits % 8388608;
-    if (field == 255) & (digits != 0) {
-        return 0.0 / 0.0;
-    }
-    f32::from_bits(bits)
-}
 
 // A count, or the most that there is.
 pub fn at_most(n: usize, most: usize) -> usize

@@ -31,26 +31,26 @@ pub fn input() -> [u8; 262144]
 pub fn wide(s: &[u8], at: usize) -> usize
     requires { ⌜ at + 8 ≤ length (now s) ⌝ }
 {
-    replay::word(s, at) as usize + 4294967296 * (replay::word(s, at + 4) as usize)
+    words::word(s, at) as usize + 4294967296 * (words::word(s, at + 4) as usize)
 }
 
 pub fn axes_of(s: &[u8], at: usize) -> Axes
     requires { ⌜ at + 12 ≤ length (now s) ⌝ }
 {
-    let r0 = replay::word(s, at) as usize;
-    let r1 = replay::word(s, at + 4) as usize;
-    let r2 = replay::word(s, at + 8) as usize;
+    let r0 = words::word(s, at) as usize;
+    let r1 = words::word(s, at + 4) as usize;
+    let r2 = words::word(s, at + 8) as usize;
     Axes { r0, r1, r2 }
 }
 
 pub fn placement_of(s: &[u8], at: usize) -> Placement
     requires { ⌜ at + 20 ≤ length (now s) ⌝ }
 {
-    let x = replay::float_of(replay::word(s, at));
-    let y = replay::float_of(replay::word(s, at + 4));
-    let z = replay::float_of(replay::word(s, at + 8));
-    let scale = replay::float_of(replay::word(s, at + 12));
-    let reciprocal = replay::float_of(replay::word(s, at + 16));
+    let x = words::float_of(words::word(s, at));
+    let y = words::float_of(words::word(s, at + 4));
+    let z = words::float_of(words::word(s, at + 8));
+    let scale = words::float_of(words::word(s, at + 12));
+    let reciprocal = words::float_of(words::word(s, at + 16));
     Placement {
         x,
         y,
@@ -65,10 +65,10 @@ pub fn row_of(s: &[u8], at: usize, from: usize) -> Row
     requires { ⌜ at + 16 ≤ length (now s) ⌝ }
     ensures { λ r. ⌜ (r .length ≤ 196620) × (r .stored ≤ 65536) × (r .from ≡ from) ⌝ }
 {
-    let length = replay::at_most(replay::word(s, at) as usize, 196620);
-    let stored = replay::at_most(replay::word(s, at + 4) as usize, 65536);
-    let place = replay::word(s, at + 8) as usize;
-    let value = replay::word(s, at + 12);
+    let length = replay::at_most(words::word(s, at) as usize, 196620);
+    let stored = replay::at_most(words::word(s, at + 4) as usize, 65536);
+    let place = words::word(s, at + 8) as usize;
+    let value = words::word(s, at + 12);
     Row {
         length,
         stored,
@@ -90,7 +90,7 @@ fn word_at(s: &[u8], r: Row, i: usize) -> u32
     if m == 0 {
         return 0;
     }
-    replay::word(s, from + 4 * (i % m))
+    words::word(s, from + 4 * (i % m))
 }
 
 pub fn words(s: &[u8], r: Row) -> [u32; 196620]
@@ -115,7 +115,7 @@ pub fn floats(s: &[u8], r: Row) -> [f32; 196620]
     let mut out = [0.0f32; 196620];
     let mut i = 0usize;
     while i < n {
-        out[i] = replay::float_of(word_at(s, r, i));
+        out[i] = words::float_of(word_at(s, r, i));
         i += 1;
     }
     out
@@ -181,7 +181,7 @@ pub fn blank_floats(n: usize) -> [f32; 196620]
     let mut out = [0.0f32; 196620];
     let mut i = 0usize;
     while i < n {
-        out[i] = replay::float_of((i % 97) as u32 + 1100000000);
+        out[i] = words::float_of((i % 97) as u32 + 1100000000);
         i += 1;
     }
     out

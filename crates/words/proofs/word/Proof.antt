@@ -1,11 +1,11 @@
--- `replay::word` stays in its slice, and four bytes make a u32. Assumes nothing.
+-- `words::word` stays in its slice, and four bytes make a u32. Assumes nothing.
 use Prim.Native.Nat.{_+_}
 use native.Mathlib.Omega.{arith}
 use borrow.Author.Needs.{needs}
 use mathlib.Core.Path.{refl}
-use Rattle.replay.specs.Words.{wordAt}
-use Rattle.replay.proofs.word.Statement.{statement}
-use Rattle.replay.proofs.word.Tie as tie
+use Rattle.words.specs.Words.{wordAt}
+use Rattle.words.proofs.word.Statement.{statement}
+use Rattle.words.proofs.word.Tie as tie
 
 shared-slice-read-result : tie.Need-shared-slice-read-result
 shared-slice-read-result c = search needs

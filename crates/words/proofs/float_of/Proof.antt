@@ -1,12 +1,12 @@
--- `replay::float_of` meets its contract, and never makes a float of a NaN's pattern. Assumes nothing.
+-- `words::float_of` meets its contract, and never makes a float of a NaN's pattern. Assumes nothing.
 use mathlib.Core.Bool.{Bool, not}
 use mathlib.Core.Path.{sym, subst}
 use lib.Dec.{T}
 use lib.Ieee.{nanBits}
 use borrow.Author.Needs.{needs}
-use Rattle.replay.proofs.Laws.{nan-pattern}
-use Rattle.replay.proofs.float_of.Statement.{statement}
-use Rattle.replay.proofs.float_of.Tie as tie
+use Rattle.words.proofs.Laws.{nan-pattern}
+use Rattle.words.proofs.float_of.Statement.{statement}
+use Rattle.words.proofs.float_of.Tie as tie
 
 returns : tie.Need-returns
 returns c = nan-pattern (c .before .args .bits) (c .if1 .taken)

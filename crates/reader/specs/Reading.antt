@@ -1,0 +1,53 @@
+-- 01, Program records: "The reader takes the records one at a time. .. The first faulty record ends the reading". Definitions only.
+use mathlib.Core.List.{List, [], _∷_, _++_}
+use mathlib.Core.Path.{_≡_}
+use Prim.Native.Nat.{ℕ, _+_, _*_, _/_}
+use lib.Ieee.{Float}
+use lib.ListN.{length, take}
+use Rattle.grid.specs.declared.Refusal.{Refusal}
+use Rattle.grid.specs.Answers.{Outcome, answers, refuses}
+use Rattle.sizing.specs.declared.Point.{Point}
+use Rattle.reader.specs.declared.Head.{Head}
+use Rattle.reader.specs.declared.Corners.{Corners}
+use Rattle.reader.specs.declared.Counts.{Counts}
+use Rattle.reader.specs.declared.Reading.{Reading}
+use Rattle.reader.specs.declared.Reading.the-variants as Reading
+use Rattle.reader.specs.declared.Start.the-variants as Start
+use Rattle.reader.specs.declared.Record.the-variants as Record
+use Rattle.reader.specs.declared.Step.the-variants as Step
+use Rattle.reader.specs.Records.{startAt, stepAt}
+
+-- a complete input: its head, and the numbers of its points and triangles, one after the other
+pub record Stream : Type 0 where
+  pub head : Head
+  pub points : List Float
+  pub triangles : List ℕ
+
+-- how many points and triangles there are so far
+abbrev pub counted : List Float → List ℕ → Counts
+counted ps ts = record { points = length ps / 3; triangles = length ts / 3 }
+
+abbrev pub numbersOf : Point → List Float
+numbersOf p = p .x ∷ p .y ∷ p .z ∷ []
+
+abbrev pub cornersOf : Corners → List ℕ
+cornersOf t = t .a ∷ t .b ∷ t .c ∷ []
+
+-- the records after the head, from a place on, where the points ps and triangles ts were taken before: a point or a triangle is 14 bytes with its mark
+pub data Reads (s : List ℕ) (h : Head) : ℕ → List Float → List ℕ → Outcome Stream → Type 0 where
+  faulty : {at : ℕ} {ps : List Float} {ts : List ℕ} {f : Refusal} → stepAt s at (counted ps ts) ≡ Step.Refused f → Reads s h at ps ts (refuses (f .number) (f .place))
+  point : {at : ℕ} {ps : List Float} {ts : List ℕ} {p : Point} {o : Outcome Stream}
+      → stepAt s at (counted ps ts) ≡ Step.Took (Record.Point p) → Reads s h (at + 14) (ps ++ numbersOf p) ts o → Reads s h at ps ts o
+  triangle : {at : ℕ} {ps : List Float} {ts : List ℕ} {t : Corners} {o : Outcome Stream}
+      → stepAt s at (counted ps ts) ≡ Step.Took (Record.Triangle t) → Reads s h (at + 14) ps (ts ++ cornersOf t) o → Reads s h at ps ts o
+  end : {at : ℕ} {ps : List Float} {ts : List ℕ} → stepAt s at (counted ps ts) ≡ Step.Took Record.End → Reads s h at ps ts (answers (record { head = h; points = ps; triangles = ts }))
+
+-- the whole input: the head is 8 bytes with its mark
+pub data Read (s : List ℕ) : Outcome Stream → Type 0 where
+  no-head : {f : Refusal} → startAt s ≡ Start.Refused f → Read s (refuses (f .number) (f .place))
+  headed : {h : Head} {o : Outcome Stream} → startAt s ≡ Start.Took h → Reads s h 8 [] [] o → Read s o
+
+-- what `Reading` means, with the buffers that it leaves
+abbrev pub outcome : Reading → List Float → List ℕ → Outcome Stream
+outcome (Reading.Complete h n) ps ts = answers (record { head = h; points = take (3 * n .points) ps; triangles = take (3 * n .triangles) ts })
+outcome (Reading.Refused f) ps ts = refuses (f .number) (f .place)
