@@ -47,7 +47,7 @@ pub fn first_missing(ts: &[u32], n: usize) -> usize
 }
 
 // Refusal 4 of triangles that name one of n points.
-fn missing_fault(ts: &[u32], n: usize) -> Checked
+pub fn missing_fault(ts: &[u32], n: usize) -> Checked
     ensures { λ f. ⌜ f ≡ missingFault n (now (ts .entry)) ⌝ }
 {
     corner_fault(4, first_missing(ts, n), ts.len())

@@ -88,7 +88,7 @@ module _ {A : Type 0} (d : A) (n : ℕ) (xs ys : List A) (x y z : A) where
   pub held-more : Held n xs → n < 256 → Written d (3 * n) (x ∷ y ∷ z ∷ []) xs ys → Held (n + 1) ys × (take (3 * (n + 1)) ys ≡ take (3 * n) xs ++ (x ∷ y ∷ z ∷ []))
   held-more w h a = (
     record { room = a .size ∙ w .room; few = omega arith },
-    ap (λ (k : ℕ). take k ys) (let e : 3 * (n + 1) ≡ 3 * n + 3 = omega arith in e) ∙ front-written d (3 * n) (x ∷ y ∷ z ∷ []) xs ys (omega (arith, w .room)) a
+    ap (λ (k : ℕ). take k ys) (let e : 3 * (n + 1) ≡ 3 * n + 3 = omega arith in e) ∙ front-written d (3 * n) (x ∷ y ∷ z ∷ []) xs ys (omega (arith, w .room)) a,
   )
 
 -- p points and t triangles were read, up to a place: what follows from there is what follows from the start

@@ -1,7 +1,7 @@
 -- 01, Program records: "The reader takes the records one at a time. .. The first faulty record ends the reading". Definitions only.
 use mathlib.Core.List.{List, [], _∷_, _++_}
 use mathlib.Core.Path.{_≡_}
-use Prim.Native.Nat.{ℕ, _+_, _*_, _/_}
+use Prim.Native.Nat.{ℕ, _+_, _*_, _/_, _≤_}
 use lib.Ieee.{Float}
 use lib.ListN.{length, take}
 use Rattle.grid.specs.declared.Refusal.{Refusal}
@@ -51,3 +51,8 @@ pub data Read (s : List ℕ) : Outcome Stream → Type 0 where
 abbrev pub outcome : Reading → List Float → List ℕ → Outcome Stream
 outcome (Reading.Complete h n) ps ts = answers (record { head = h; points = take (3 * n .points) ps; triangles = take (3 * n .triangles) ts })
 outcome (Reading.Refused f) ps ts = refuses (f .number) (f .place)
+
+-- "At most 256 points and 256 triangles"
+abbrev pub Few : Reading → Type 0
+Few (Reading.Complete h n) = (n .points ≤ 256) × (n .triangles ≤ 256)
+Few (Reading.Refused f) = Unit

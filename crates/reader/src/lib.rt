@@ -7,7 +7,7 @@ ghost use lib.Ieee.{nan};
 ghost use mathlib.Core.List.{[], _∷_};
 ghost use Rattle.order.specs.Output.{Written};
 ghost use Rattle.reader.specs.Records.{bytesAt, markOf, markAt, wayOf, modeOf, refusedStart, headOf, headBy, startAt, refused, pointFrom, cornersFrom, pointStep, triangleStep, endStep, stepAt};
-ghost use Rattle.reader.specs.Reading.{outcome, Reads, Read};
+ghost use Rattle.reader.specs.Reading.{outcome, Few, Reads, Read};
 use fill::Mode;
 use grid::Refusal;
 use sizing::Point;
@@ -315,7 +315,7 @@ fn read_on(input: &[u8], head: Head, ps: &mut [f32], ts: &mut [u32]) -> Reading
     requires { ⌜ 8 ≤ length (now input) ⌝ }
     requires { ⌜ (length (now ps) ≡ 768) × (length (now ts) ≡ 768) ⌝ }
     ensures { λ r. ⌜ Reads (now (input .entry)) head 8 [] [] (outcome r (now (ps .exit)) (now (ts .exit))) ⌝ }
-    ensures { λ _. ⌜ (length (now (ps .exit)) ≡ 768) × (length (now (ts .exit)) ≡ 768) ⌝ }
+    ensures { λ r. ⌜ Few r × (length (now (ps .exit)) ≡ 768) × (length (now (ts .exit)) ≡ 768) ⌝ }
 {
     let mut at = 8usize;
     let mut points = 0usize;
@@ -347,7 +347,7 @@ fn read_on(input: &[u8], head: Head, ps: &mut [f32], ts: &mut [u32]) -> Reading
 pub fn read(input: &[u8], ps: &mut [f32], ts: &mut [u32]) -> Reading
     requires { ⌜ (length (now ps) ≡ 768) × (length (now ts) ≡ 768) ⌝ }
     ensures { λ r. ⌜ Read (now (input .entry)) (outcome r (now (ps .exit)) (now (ts .exit))) ⌝ }
-    ensures { λ _. ⌜ (length (now (ps .exit)) ≡ 768) × (length (now (ts .exit)) ≡ 768) ⌝ }
+    ensures { λ r. ⌜ Few r × (length (now (ps .exit)) ≡ 768) × (length (now (ts .exit)) ≡ 768) ⌝ }
 {
     match take_head(input) {
         Start::Refused(f) => Reading::Refused(f),

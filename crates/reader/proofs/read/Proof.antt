@@ -19,7 +19,7 @@ read-on-requires : tie.Need-read-on-requires
 read-on-requires c κs = let a = c .before .before .before .before .before .before .before .before .before in (head-there (a .args .input .now) _ (sym (c .before .before .before .head .given .1) ∙ c .before .before .before .before .before .take-head .ensures), a .pre)
 
 returns : tie.Need-returns
-returns c = (Read.no-head (sym (c .before .before .before .take-head .ensures) ∙ c .before .f .given .1), c .before .before .before .before .before .before .before .pre)
+returns c = (Read.no-head (sym (c .before .before .before .take-head .ensures) ∙ c .before .f .given .1), (tt, c .before .before .before .before .before .before .before .pre .0, c .before .before .before .before .before .before .before .pre .1))
 
 same-length : tie.Need-same-length
 same-length c = search needs

@@ -32,7 +32,7 @@ same-length-2 : tie.Need-same-length-2 Inv-loop μ-loop
 same-length-2 c = let k = c .before .before .before .before in k .loop .inv .triangles-in .room ∙ sym (k .before .before .before .before .pre .1 .1)
 
 returns : tie.Need-returns Inv-loop μ-loop
-returns c = let k = c .before .before .before .before in let w = k .loop .inv in (w .rest _ (Reads.faulty (asked _ _ _ _ _ _ _ w _ (sym (c .before .f .given .1) ∙ c .before .before .before .take-record .ensures))), (w .points-in .room, w .triangles-in .room))
+returns c = let k = c .before .before .before .before in let w = k .loop .inv in (w .rest _ (Reads.faulty (asked _ _ _ _ _ _ _ w _ (sym (c .before .f .given .1) ∙ c .before .before .before .take-record .ensures))), (tt, w .points-in .room, w .triangles-in .room))
 
 enum-known-r : tie.Need-enum-known-r Inv-loop μ-loop
 enum-known-r c = search needs
@@ -47,7 +47,7 @@ same-length-4 : tie.Need-same-length-4 Inv-loop μ-loop
 same-length-4 c = let k = c .before .before .before .before .before .before in k .loop .inv .triangles-in .room ∙ sym (k .before .before .before .before .pre .1 .1)
 
 returns-2 : tie.Need-returns-2 Inv-loop μ-loop
-returns-2 c = let k = c .before .before .before .before .before .before in let w = k .loop .inv in (w .rest _ (Reads.end (asked _ _ _ _ _ _ _ w _ (ap Took (sym (c .enum-told .given .1)) ∙ sym (c .before .before .before .r .given .1) ∙ c .before .before .before .before .before .take-record .ensures))), (w .points-in .room, w .triangles-in .room))
+returns-2 c = let k = c .before .before .before .before .before .before in let w = k .loop .inv in (w .rest _ (Reads.end (asked _ _ _ _ _ _ _ w _ (ap Took (sym (c .enum-told .given .1)) ∙ sym (c .before .before .before .r .given .1) ∙ c .before .before .before .before .before .take-record .ensures))), ((w .points-in .few, w .triangles-in .few), w .points-in .room, w .triangles-in .room))
 
 enum-known-r-2 : tie.Need-enum-known-r-2 Inv-loop μ-loop
 enum-known-r-2 c = search needs
