@@ -17,6 +17,7 @@ use Rattle.grid.specs.declared.Placement.{Placement}
 use Rattle.grid.specs.Answers.{answers, _andThen_}
 use Rattle.grid.specs.Checks.{gridFault}
 use Rattle.grid.specs.Grid.{Sound, cells}
+use Rattle.grid.proofs.First.{both-true}
 use Rattle.grid.proofs.Checks.{passed, not-false, both-fine, answered, fault-not, first-fine, axes-fine, buffer-fine}
 use Rattle.sizing.specs.Points.{bounded, pointsFault, lengthFault, noneFault, numbersFault}
 use Rattle.sizing.specs.Sizing.{Laid, points, extent, spansOf, leastSize, greatestSize, sizeFault, sizeAxes, sizeGrid, bySize, gridOf, placedAt, leastExtent, resolutionFault, extentFault, countOf, mainOf, dmainOf, resolutionAxes, resolutionScale, resolutionGrid, byResolution}
@@ -25,7 +26,6 @@ use Rattle.sizing.proofs.Extremes.{x-spanned, y-spanned, z-spanned}
 use Rattle.sizing.proofs.Ranges.{is-laid, of-main, extents, main-largest}
 use Rattle.sizing.proofs.Ratio.{Extent}
 use Rattle.mesh.specs.Faults.{originFault, missingFault, leastScale, greatestScale, lentFault, lengthsFault, lentNumbersFault, inputFault, offFault, meshFault}
-use Rattle.mesh.proofs.Laws.{both-l, both-r}
 use Rattle.laid.proofs.Near.{plain}
 use Rattle.laid.proofs.Cover.{inverse, over-near}
 use Rattle.laid.proofs.Own.{size-never-10, resolution-never-10, positive-plain, plain-positive, main-plain, main-least, main-most}
@@ -91,8 +91,8 @@ mesh-own ps ts r at len a b i = a i andThen b i
 size-lendable : (size : Float) → sizeFault size ≡ Fine → Lendable size
 size-lendable size h =
     let b = not-false (le leastSize size && le size greatestSize) (passed (not (le leastSize size && le size greatestSize)) 5 0 Fine h .0) in
-    let lo : T (le leastSize size) = subst T (sym (both-l (le leastSize size) (le size greatestSize) b)) tt in
-    let hi : T (le size greatestSize) = subst T (sym (both-r (le leastSize size) (le size greatestSize) b)) tt in
+    let lo : T (le leastSize size) = subst T (sym (both-true (le leastSize size) (le size greatestSize) b .0)) tt in
+    let hi : T (le size greatestSize) = subst T (sym (both-true (le leastSize size) (le size greatestSize) b .1)) tt in
     let p = between leastSize size greatestSize tt tt lo hi in
     record {
       is-plain = positive-plain size p;
