@@ -1,0 +1,42 @@
+-- `capi::vm_mark` meets its contract: what marking answers, flat, and its labels. Assumes nothing.
+use mathlib.Core.Path.{ap, _∙_}
+use Rattle.marking.specs.Marked.{markAnswer, markLabels}
+use Rattle.capi.specs.Flat.{flatOf}
+use borrow.Author.Needs.{needs}
+use Rattle.capi.proofs.vm_mark.Statement.{statement}
+use Rattle.capi.proofs.vm_mark.Tie as tie
+
+axes-of-requires : tie.Need-axes-of-requires
+axes-of-requires c κs = search needs
+
+placement-of-requires : tie.Need-placement-of-requires
+placement-of-requires c κs = search needs
+
+mark-requires : tie.Need-mark-requires
+mark-requires c κs = search needs
+
+flat-marking-requires : tie.Need-flat-marking-requires
+flat-marking-requires c κs = search needs
+
+same-length : tie.Need-same-length
+same-length c = search needs
+
+returns : tie.Need-returns
+returns c =
+    let a = c .before .before .before .before .before .before .before .before .before .before .args in
+    let e = c .before .before .before .before .before .before .axes-of .ensures in
+    let g = c .before .before .before .before .before .placement-of .ensures in (
+      c .flat-marking .ensures ∙ ap (flatOf tt) (c .before .before .before .mark .ensures .0 ∙ (λ t. markAnswer (a .points .now) (a .triangles .now) (e t) (g t) (a .labels .now))),
+      c .before .before .before .mark .ensures .1 ∙ (λ t. markLabels (a .points .now) (a .triangles .now) (e t) (g t) (a .labels .now)),
+    )
+
+pub vm-mark-spec : {M : Type 1} → statement M
+vm-mark-spec =
+    tie.close
+    (tie.spec
+    axes-of-requires
+    placement-of-requires
+    mark-requires
+    flat-marking-requires
+    same-length
+    returns)
