@@ -1,45 +1,28 @@
--- What a flat answer says: it determines the outcome, and the outcome determines it; so two flat answers of a call coincide. Assumes nothing.
+-- What the exported functions share: the relations of fill and edits told of a flat answer, and where a part of a list lies. Assumes nothing.
 use mathlib.Core.Bool.{Bool, true, false, cond}
-use mathlib.Core.Path.{_≡_, refl, sym, ap, subst, _∙_}
+use mathlib.Core.Path.{_≡_, refl, sym, ap, subst}
 use mathlib.Core.List.{List, [], _∷_}
-use Prim.Native.Nat.{ℕ, zero, suc, _-_, _≤_}
-use lib.Dec.{T}
+use Prim.Native.Nat.{ℕ, _-_, _≤_}
 use lib.ListN.{take, drop}
 use Rattle.grid.specs.declared.Axes.{Axes}
 use Rattle.grid.specs.declared.Checked.the-variants.{Fine, Fault}
 use Rattle.grid.specs.declared.Refusal.{Refusal}
-use Rattle.grid.specs.Answers.{faultIf, Outcome, answers, refuses, Ends, isOneOf, Gives}
+use Rattle.grid.specs.Answers.{faultIf, Outcome, Ends}
 use Rattle.fill.specs.declared.Mode.{Mode}
 use Rattle.fill.specs.declared.Counts.{Counts}
-use Rattle.fill.specs.declared.Filling.{Filling}
 use Rattle.fill.specs.Modes as fills
 use Rattle.fill.proofs.Laws.{fill-numbers}
 use Rattle.grid.specs.Flood.{Flooded}
-use Rattle.edits.specs.declared.Editing.{Editing}
 use Rattle.edits.specs.Edits.{Edit}
-use Rattle.edits.specs.Edits as edits
 use Rattle.edits.specs.History.{Call}
 use Rattle.edits.proofs.Laws.{edit-numbers}
 use Rattle.grid.proofs.Checks.{no-fault, passed}
 use Rattle.listed.specs.Listed.{badRange, rangeFault, partOf}
 use Rattle.listed.proofs.Records.{part-length, part-good, part-bad}
-use Rattle.capi.specs.declared.Part.{Part}
-use Rattle.capi.specs.Flat.{Flat, flatOf, heard, Tells}
-use Rattle.capi.specs.Structs.{noFill, partAt}
-
--- ---- one law for every call
-
--- of an outcome that is an answer, or a refusal with one of some numbers, 0 not among them, what is heard is that outcome
-pub heard-flat : {A : Type 0} (none : A) (ns : List ℕ) (o : Outcome A) → isOneOf 0 ns ≡ false → Gives ns o → heard (flatOf none o) ≡ o
-heard-flat none ns (answers a) h g = refl
-heard-flat none ns (refuses zero place) h g = absurd (subst T h g)
-heard-flat none ns (refuses (suc n) place) h g = refl
-
--- a call's relation, of the flat answer
-pub tells : {A : Type 0} (none : A) (ns : List ℕ) (Allowed : Outcome A → Type 0) (f : Flat A) (o : Outcome A) → isOneOf 0 ns ≡ false → Gives ns o → f ≡ flatOf none o → Allowed o → Tells none Allowed f
-tells none ns Allowed f o h g p a =
-    let e : heard f ≡ o = ap heard p ∙ heard-flat none ns o h g in
-    record { allowed = subst Allowed (sym e) a; plain = p ∙ ap (flatOf none) (sym e) }
+use Rattle.flat.specs.declared.Part.{Part}
+use Rattle.flat.proofs.Laws.{tells}
+use Rattle.flat.specs.Flat.{Flat, flatOf, Tells}
+use Rattle.flat.specs.Structs.{noFill, partAt}
 
 -- ---- the relations of fill and edits
 

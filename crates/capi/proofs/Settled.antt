@@ -6,7 +6,7 @@ use lib.Ieee.{Float}
 use Rattle.grid.specs.declared.Axes as grid-axes
 use Rattle.grid.specs.declared.Placement as grid-placement
 use Rattle.grid.specs.Answers.{Outcome, answers, refuses, Ends}
-use Rattle.sizing.specs.Sizing.{Laid, bySize, byResolution}
+use Rattle.sizing.specs.Sizing.{bySize, byResolution}
 use Rattle.sizing.proofs.Ranges.{size-numbers, resolution-numbers}
 use Rattle.marking.specs.Marked.{markAnswer}
 use Rattle.marking.proofs.Laws.{mark-numbers}
@@ -36,58 +36,13 @@ use Rattle.boxes.proofs.Laws.{boxes-numbers}
 use Rattle.listed.specs.Listed.{badRange, rangeFault}
 use Rattle.grid.proofs.Checks.{finds-if, gives-unless}
 use Rattle.grid.specs.declared.Checked.the-variants.{Fine}
-use Rattle.capi.specs.declared.Verdict.{Verdict}
-use Rattle.capi.specs.declared.Sized.{Sized}
-use Rattle.capi.specs.declared.Filled.{Filled}
-use Rattle.capi.specs.declared.Counted.{Counted}
-use Rattle.capi.specs.declared.Listed.{Listed}
-use Rattle.capi.specs.declared.Planned.{Planned}
-use Rattle.capi.specs.declared.Parted.{Parted}
-use Rattle.capi.specs.Flat.{Flat, flatOf, heard, Tells}
-use Rattle.capi.specs.Structs.{verdict, sized, filled, counted, listings, planned, parted, noGrid, noFill, noList, noPlanes, noSides, asAnswer}
-use Rattle.capi.proofs.Laws.{heard-flat}
+use Rattle.flat.specs.declared.Filled.{Filled}
+use Rattle.flat.specs.declared.Counted.{Counted}
+use Rattle.flat.specs.Flat.{flatOf, heard, Tells}
+use Rattle.flat.specs.Structs.{filled, counted, noGrid, noFill, noList, noPlanes, noSides, asAnswer}
+use Rattle.flat.proofs.Laws.{heard-flat, tells-one, filled-one, counted-one}
 
--- ---- a struct is its number, place and values
-
-pub verdict-one : (a b : Verdict) → verdict a ≡ verdict b → a ≡ b
-verdict-one a b p = λ t. record { number = p t .number; place = p t .place }
-
-pub sized-one : (a b : Sized) → sized a ≡ sized b → a ≡ b
-sized-one a b p = λ t. record {
-  number = p t .number;
-  place = p t .place;
-  axes = record { r0 = p t .value .axes .r0; r1 = p t .value .axes .r1; r2 = p t .value .axes .r2 };
-  placement = record { x = p t .value .placement .x; y = p t .value .placement .y; z = p t .value .placement .z; scale = p t .value .placement .scale; reciprocal = p t .value .placement .reciprocal };
-}
-
-pub filled-one : (a b : Filled) → filled a ≡ filled b → a ≡ b
-filled-one a b p = λ t. record { number = p t .number; place = p t .place; scans = p t .value .scans; left = p t .value .left }
-
-pub counted-one : (a b : Counted) → counted a ≡ counted b → a ≡ b
-counted-one a b p = λ t. record { number = p t .number; place = p t .place; count = p t .value }
-
-pub listed-one : (a b : Listed) → listings a ≡ listings b → a ≡ b
-listed-one a b p = λ t. record { number = p t .number; place = p t .place; cells = p t .value .cells; pairs = p t .value .pairs }
-
-pub planned-one : (a b : Planned) → planned a ≡ planned b → a ≡ b
-planned-one a b p = λ t. record { number = p t .number; place = p t .place; first = p t .value .first; count = p t .value .count }
-
-pub parted-one : (a b : Parted) → parted a ≡ parted b → a ≡ b
-parted-one a b p = λ t. record { number = p t .number; place = p t .place; first = p t .value .first; second = p t .value .second }
-
--- ---- calls that go by an equation: of the struct S of any of them, seen as a flat answer by `view`. Every lent buffer is one side of an equation too
-
-pub settled : {S A : Type 0} (view : S → Flat A) → ((a b : S) → view a ≡ view b → a ≡ b)
-    → (none : A) (o : Outcome A) (a b : S) → view a ≡ flatOf none o → view b ≡ flatOf none o → a ≡ b
-settled view one none o a b p q = one a b (p ∙ sym q)
-
--- ---- calls that go by a relation, where two outcomes that it allows are one
-
-pub tells-one : {A B : Type 0} (none : A) (Allowed : Outcome A → B → Type 0) → ((o p : Outcome A) (x y : B) → Allowed o x → Allowed p y → (o ≡ p) × (x ≡ y))
-    → (f g : Flat A) (x y : B) → Tells none (λ o. Allowed o x) f → Tells none (λ o. Allowed o y) g → (f ≡ g) × (x ≡ y)
-tells-one none Allowed one f g x y p q =
-    let w = one (heard f) (heard g) x y (p .allowed) (q .allowed) in
-    (p .plain ∙ ap (flatOf none) (w .0) ∙ sym (q .plain), w .1)
+-- ---- fill and edits
 
 -- every outcome of a fill is one of its cases
 as-filling : (o : Outcome fill-counts.Counts) → (f : Filling) × (fills.outcome f ≡ o)

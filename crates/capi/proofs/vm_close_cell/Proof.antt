@@ -15,14 +15,14 @@ cell-of-requires c κs = search needs
 close-cell-requires : tie.Need-close-cell-requires
 close-cell-requires c κs = search needs
 
-flat-editing-requires : tie.Need-flat-editing-requires
-flat-editing-requires c κs = search needs
+of-editing-requires : tie.Need-of-editing-requires
+of-editing-requires c κs = search needs
 
 same-length : tie.Need-same-length
 same-length c = search needs
 
 returns : tie.Need-returns
-returns c = let d = c .before .before .before .close-cell in edit-tells _ _ _ _ (c .before .before .before .before .before .before .before .before .args .labels .now) _ _ _ (c .before .before .before .before .before .axes-of .ensures) (ap closing (c .before .before .before .before .cell-of .ensures)) (c .flat-editing .ensures) (d .ensures .0) (d .ensures .1)
+returns c = let d = c .before .before .before .close-cell in edit-tells _ _ _ _ (c .before .before .before .before .before .before .before .before .args .labels .now) _ _ _ (c .before .before .before .before .before .axes-of .ensures) (ap closing (c .before .before .before .before .cell-of .ensures)) (c .of-editing .ensures) (d .ensures .0) (d .ensures .1)
 
 pub vm-close-cell-spec : {M : Type 1} → statement M
 vm-close-cell-spec =
@@ -31,6 +31,6 @@ vm-close-cell-spec =
     axes-of-requires
     cell-of-requires
     close-cell-requires
-    flat-editing-requires
+    of-editing-requires
     same-length
     returns)

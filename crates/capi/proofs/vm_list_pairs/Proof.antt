@@ -1,8 +1,8 @@
 -- `capi::vm_list_pairs` meets its contract: what the list answers, flat, and its two outputs. Assumes nothing.
 use mathlib.Core.Path.{ap, _∙_}
 use Rattle.pairs.specs.Paired.{pairsAnswer, recordsBuffer, trianglesBuffer}
-use Rattle.capi.specs.Flat.{flatOf}
-use Rattle.capi.specs.Structs.{noList}
+use Rattle.flat.specs.Flat.{flatOf}
+use Rattle.flat.specs.Structs.{noList}
 use borrow.Author.Needs.{needs}
 use Rattle.capi.proofs.vm_list_pairs.Statement.{statement}
 use Rattle.capi.proofs.vm_list_pairs.Tie as tie
@@ -16,8 +16,8 @@ placement-of-requires c κs = search needs
 list-pairs-requires : tie.Need-list-pairs-requires
 list-pairs-requires c κs = search needs
 
-flat-listing-requires : tie.Need-flat-listing-requires
-flat-listing-requires c κs = search needs
+of-listing-requires : tie.Need-of-listing-requires
+of-listing-requires c κs = search needs
 
 same-length : tie.Need-same-length
 same-length c = search needs
@@ -30,7 +30,7 @@ returns c =
     let a = c .before .before .before .before .before .before .before .before .before .before .before .before .before .before .before .args in
     let e = c .before .before .before .before .before .before .before .before .before .axes-of .ensures in
     let g = c .before .before .before .before .before .before .before .before .placement-of .ensures in (
-      c .flat-listing .ensures ∙ ap (flatOf noList) (c .before .before .before .before .before .list-pairs .ensures .0 ∙ (λ t. pairsAnswer (a .points .now) (a .triangles .now) (e t) (g t) (a .labels .now) (a .records .now) (a .list .now))),
+      c .of-listing .ensures ∙ ap (flatOf noList) (c .before .before .before .before .before .list-pairs .ensures .0 ∙ (λ t. pairsAnswer (a .points .now) (a .triangles .now) (e t) (g t) (a .labels .now) (a .records .now) (a .list .now))),
       (
         c .before .before .before .before .before .list-pairs .ensures .1 .0 ∙ (λ t. recordsBuffer (a .points .now) (a .triangles .now) (e t) (g t) (a .labels .now) (a .records .now) (a .list .now)),
         c .before .before .before .before .before .list-pairs .ensures .1 .1 ∙ (λ t. trianglesBuffer (a .points .now) (a .triangles .now) (e t) (g t) (a .labels .now) (a .records .now) (a .list .now)),
@@ -44,7 +44,7 @@ vm-list-pairs-spec =
     axes-of-requires
     placement-of-requires
     list-pairs-requires
-    flat-listing-requires
+    of-listing-requires
     same-length
     same-length-2
     returns)

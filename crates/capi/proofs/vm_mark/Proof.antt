@@ -1,7 +1,7 @@
 -- `capi::vm_mark` meets its contract: what marking answers, flat, and its labels. Assumes nothing.
 use mathlib.Core.Path.{ap, _∙_}
 use Rattle.marking.specs.Marked.{markAnswer, markLabels}
-use Rattle.capi.specs.Flat.{flatOf}
+use Rattle.flat.specs.Flat.{flatOf}
 use borrow.Author.Needs.{needs}
 use Rattle.capi.proofs.vm_mark.Statement.{statement}
 use Rattle.capi.proofs.vm_mark.Tie as tie
@@ -15,8 +15,8 @@ placement-of-requires c κs = search needs
 mark-requires : tie.Need-mark-requires
 mark-requires c κs = search needs
 
-flat-marking-requires : tie.Need-flat-marking-requires
-flat-marking-requires c κs = search needs
+of-marking-requires : tie.Need-of-marking-requires
+of-marking-requires c κs = search needs
 
 same-length : tie.Need-same-length
 same-length c = search needs
@@ -26,7 +26,7 @@ returns c =
     let a = c .before .before .before .before .before .before .before .before .before .before .args in
     let e = c .before .before .before .before .before .before .axes-of .ensures in
     let g = c .before .before .before .before .before .placement-of .ensures in (
-      c .flat-marking .ensures ∙ ap (flatOf tt) (c .before .before .before .mark .ensures .0 ∙ (λ t. markAnswer (a .points .now) (a .triangles .now) (e t) (g t) (a .labels .now))),
+      c .of-marking .ensures ∙ ap (flatOf tt) (c .before .before .before .mark .ensures .0 ∙ (λ t. markAnswer (a .points .now) (a .triangles .now) (e t) (g t) (a .labels .now))),
       c .before .before .before .mark .ensures .1 ∙ (λ t. markLabels (a .points .now) (a .triangles .now) (e t) (g t) (a .labels .now)),
     )
 
@@ -37,6 +37,6 @@ vm-mark-spec =
     axes-of-requires
     placement-of-requires
     mark-requires
-    flat-marking-requires
+    of-marking-requires
     same-length
     returns)
