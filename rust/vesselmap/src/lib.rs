@@ -96,7 +96,13 @@ pub fn size_by_resolution(points: &[f32], resolution: u32) -> Result<Grid, Refus
 ///
 /// Refused with 1, 2, 3 (place: 0 to 2 the origin, then the points' numbers), 4 (place: the triangle), 5, 8 (place: the
 /// axis), 9 or 10 (place: the triangle).
-pub fn mark(points: &[f32], triangles: &[u32], axes: Axes, placement: Placement, labels: &mut [u8]) -> Result<(), Refusal> {
+pub fn mark(
+    points: &[f32],
+    triangles: &[u32],
+    axes: Axes,
+    placement: Placement,
+    labels: &mut [u8],
+) -> Result<(), Refusal> {
     sys::mark(points, triangles, axes, placement, labels).give(())
 }
 

@@ -77,20 +77,84 @@ mod c {
     extern "C" {
         pub fn vm_size_by_cell(points: *const f32, points_len: usize, size: f32) -> Sized;
         pub fn vm_size_by_resolution(points: *const f32, points_len: usize, resolution: u32) -> Sized;
-        pub fn vm_mark(points: *const f32, points_len: usize, triangles: *const u32, triangles_len: usize, r: Axes, at: Placement, labels: *mut u8, labels_len: usize) -> Verdict;
+        pub fn vm_mark(
+            points: *const f32,
+            points_len: usize,
+            triangles: *const u32,
+            triangles_len: usize,
+            r: Axes,
+            at: Placement,
+            labels: *mut u8,
+            labels_len: usize,
+        ) -> Verdict;
         pub fn vm_fill_surface(labels: *mut u8, labels_len: usize, r: Axes) -> Filled;
         pub fn vm_fill_flood(labels: *mut u8, labels_len: usize, r: Axes) -> Filled;
         pub fn vm_fill_cavities(labels: *mut u8, labels_len: usize, r: Axes) -> Filled;
         pub fn vm_open_cell(labels: *mut u8, labels_len: usize, r: Axes, c: Cell) -> Counted;
         pub fn vm_close_cell(labels: *mut u8, labels_len: usize, r: Axes, c: Cell) -> Counted;
-        pub fn vm_list_cells(labels: *const u8, labels_len: usize, r: Axes, records: *mut u32, records_len: usize) -> Listed;
-        pub fn vm_list_pairs(points: *const f32, points_len: usize, triangles: *const u32, triangles_len: usize, r: Axes, at: Placement, labels: *const u8, labels_len: usize, records: *mut u32, records_len: usize, list: *mut u32, list_len: usize) -> Listed;
+        pub fn vm_list_cells(
+            labels: *const u8,
+            labels_len: usize,
+            r: Axes,
+            records: *mut u32,
+            records_len: usize,
+        ) -> Listed;
+        pub fn vm_list_pairs(
+            points: *const f32,
+            points_len: usize,
+            triangles: *const u32,
+            triangles_len: usize,
+            r: Axes,
+            at: Placement,
+            labels: *const u8,
+            labels_len: usize,
+            records: *mut u32,
+            records_len: usize,
+            list: *mut u32,
+            list_len: usize,
+        ) -> Listed;
         pub fn vm_check_range(list: *const u32, list_len: usize, start: u32, end: u32) -> Verdict;
         pub fn vm_part(list: *const u32, list_len: usize, start: u32, end: u32) -> Part;
-        pub fn vm_classify(entries: *const u32, entries_len: usize, ends: *const u32, ends_len: usize, count: usize, classes: *mut u32, classes_len: usize) -> Verdict;
-        pub fn vm_planes(at: Placement, axis: usize, low: usize, high: usize, best: usize, step: usize, ds: *mut f32, ds_len: usize) -> Planned;
-        pub fn vm_split(points: *const f32, points_len: usize, axis: usize, d: f32, above: *mut f32, above_len: usize, below: *mut f32, below_len: usize) -> Parted;
-        pub fn vm_boxes(labels: *const u8, labels_len: usize, r: Axes, at: Placement, label: u8, points: *mut f32, points_len: usize, triangles: *mut u32, triangles_len: usize) -> Counted;
+        pub fn vm_classify(
+            entries: *const u32,
+            entries_len: usize,
+            ends: *const u32,
+            ends_len: usize,
+            count: usize,
+            classes: *mut u32,
+            classes_len: usize,
+        ) -> Verdict;
+        pub fn vm_planes(
+            at: Placement,
+            axis: usize,
+            low: usize,
+            high: usize,
+            best: usize,
+            step: usize,
+            ds: *mut f32,
+            ds_len: usize,
+        ) -> Planned;
+        pub fn vm_split(
+            points: *const f32,
+            points_len: usize,
+            axis: usize,
+            d: f32,
+            above: *mut f32,
+            above_len: usize,
+            below: *mut f32,
+            below_len: usize,
+        ) -> Parted;
+        pub fn vm_boxes(
+            labels: *const u8,
+            labels_len: usize,
+            r: Axes,
+            at: Placement,
+            label: u8,
+            points: *mut f32,
+            points_len: usize,
+            triangles: *mut u32,
+            triangles_len: usize,
+        ) -> Counted;
     }
 }
 
@@ -106,7 +170,18 @@ pub fn size_by_resolution(points: &[f32], resolution: u32) -> Sized {
 
 pub fn mark(points: &[f32], triangles: &[u32], r: Axes, at: Placement, labels: &mut [u8]) -> Verdict {
     // SAFETY: two slices, only read, and one lent to be written, which the other two cannot overlap; structs by value.
-    unsafe { c::vm_mark(points.as_ptr(), points.len(), triangles.as_ptr(), triangles.len(), r, at, labels.as_mut_ptr(), labels.len()) }
+    unsafe {
+        c::vm_mark(
+            points.as_ptr(),
+            points.len(),
+            triangles.as_ptr(),
+            triangles.len(),
+            r,
+            at,
+            labels.as_mut_ptr(),
+            labels.len(),
+        )
+    }
 }
 
 pub fn fill_surface(labels: &mut [u8], r: Axes) -> Filled {
@@ -139,12 +214,30 @@ pub fn list_cells(labels: &[u8], r: Axes, records: &mut [u32]) -> Listed {
     unsafe { c::vm_list_cells(labels.as_ptr(), labels.len(), r, records.as_mut_ptr(), records.len()) }
 }
 
-pub fn list_pairs(points: &[f32], triangles: &[u32], r: Axes, at: Placement, labels: &[u8], records: &mut [u32], list: &mut [u32]) -> Listed {
+pub fn list_pairs(
+    points: &[f32],
+    triangles: &[u32],
+    r: Axes,
+    at: Placement,
+    labels: &[u8],
+    records: &mut [u32],
+    list: &mut [u32],
+) -> Listed {
     // SAFETY: three slices, only read, and two lent to be written, which overlap nothing; structs by value.
     unsafe {
         c::vm_list_pairs(
-            points.as_ptr(), points.len(), triangles.as_ptr(), triangles.len(), r, at, labels.as_ptr(), labels.len(),
-            records.as_mut_ptr(), records.len(), list.as_mut_ptr(), list.len(),
+            points.as_ptr(),
+            points.len(),
+            triangles.as_ptr(),
+            triangles.len(),
+            r,
+            at,
+            labels.as_ptr(),
+            labels.len(),
+            records.as_mut_ptr(),
+            records.len(),
+            list.as_mut_ptr(),
+            list.len(),
         )
     }
 }
@@ -161,24 +254,61 @@ pub fn part(list: &[u32], start: u32, end: u32) -> Part {
 
 pub fn classify(entries: &[u32], ends: &[u32], count: usize, classes: &mut [u32]) -> Verdict {
     // SAFETY: two slices, only read, and one lent to be written, which they cannot overlap; a number by value.
-    unsafe { c::vm_classify(entries.as_ptr(), entries.len(), ends.as_ptr(), ends.len(), count, classes.as_mut_ptr(), classes.len()) }
+    unsafe {
+        c::vm_classify(
+            entries.as_ptr(),
+            entries.len(),
+            ends.as_ptr(),
+            ends.len(),
+            count,
+            classes.as_mut_ptr(),
+            classes.len(),
+        )
+    }
 }
 
-pub fn planes(at: Placement, axis: usize, low: usize, high: usize, best: usize, step: usize, ds: &mut [f32]) -> Planned {
+pub fn planes(
+    at: Placement,
+    axis: usize,
+    low: usize,
+    high: usize,
+    best: usize,
+    step: usize,
+    ds: &mut [f32],
+) -> Planned {
     // SAFETY: one slice, lent to be written; a struct and numbers by value.
     unsafe { c::vm_planes(at, axis, low, high, best, step, ds.as_mut_ptr(), ds.len()) }
 }
 
 pub fn split(points: &[f32], axis: usize, d: f32, above: &mut [f32], below: &mut [f32]) -> Parted {
     // SAFETY: one slice, only read, and two lent to be written, which overlap nothing; numbers by value.
-    unsafe { c::vm_split(points.as_ptr(), points.len(), axis, d, above.as_mut_ptr(), above.len(), below.as_mut_ptr(), below.len()) }
+    unsafe {
+        c::vm_split(
+            points.as_ptr(),
+            points.len(),
+            axis,
+            d,
+            above.as_mut_ptr(),
+            above.len(),
+            below.as_mut_ptr(),
+            below.len(),
+        )
+    }
 }
 
 pub fn boxes(labels: &[u8], r: Axes, at: Placement, label: u8, points: &mut [f32], triangles: &mut [u32]) -> Counted {
     // SAFETY: one slice, only read, and two lent to be written, which overlap nothing; structs and a number by value.
     unsafe {
         c::vm_boxes(
-            labels.as_ptr(), labels.len(), r, at, label, points.as_mut_ptr(), points.len(), triangles.as_mut_ptr(), triangles.len(),
+            labels.as_ptr(),
+            labels.len(),
+            r,
+            at,
+            label,
+            points.as_mut_ptr(),
+            points.len(),
+            triangles.as_mut_ptr(),
+            triangles.len(),
         )
     }
 }
