@@ -1,5 +1,6 @@
 // The C boundary: one function for each call of the library, over numbers, lent slices and structs by
-// value. Each answers whatever its types admit, as its call does, and cites the same definitions.
+// value; C gives a slice as a pointer and a length. Each answers whatever its types admit, as its call
+// does, and cites the same definitions.
 ghost use mathlib.Core.Path.{_≡_};
 ghost use lib.ListN.{take, drop};
 ghost use Rattle.grid.specs.Answers.{Ends};
@@ -18,7 +19,7 @@ ghost use Rattle.planes.specs.Planes.{planesAnswer, planesBuffer};
 ghost use Rattle.planes.specs.Split.{splitAnswer, splitBuffer};
 ghost use Rattle.boxes.specs.Boxes as boxings;
 ghost use Rattle.flat.specs.Flat.{flatOf, Tells};
-ghost use Rattle.flat.specs.Structs.{axesOf, cellOf, placementOf, verdict, sized, filled, counted, listings, planned, parted, noGrid, noFill, noList, noPlanes, noSides, asAnswer, partAt};
+ghost use Rattle.flat.specs.Structs.{axesOf, cellOf, placementOf, verdict, sized, filled, counted, listing, planned, parted, noGrid, noFill, noList, noPlanes, noSides, asAnswer, partAt};
 use fill::Mode;
 use flat::Axes;
 use flat::Cell;
@@ -109,7 +110,7 @@ pub extern "C" fn vm_close_cell(labels: &mut [u8], r: Axes, c: Cell) -> Counted
 
 #[no_mangle]
 pub extern "C" fn vm_list_cells(labels: &[u8], r: Axes, records: &mut [u32]) -> Listed
-    ensures { λ a. ⌜ listings a ≡ flatOf noList (lists.cellsAnswer (now (labels .entry)) (axesOf r) (now (records .entry))) ⌝ }
+    ensures { λ a. ⌜ listing a ≡ flatOf noList (lists.cellsAnswer (now (labels .entry)) (axesOf r) (now (records .entry))) ⌝ }
     ensures { λ _. ⌜ now (records .exit) ≡ lists.cellsBuffer (now (labels .entry)) (axesOf r) (now (records .entry)) ⌝ }
 {
     flat::of_listing(list::list_cells(labels, flat::axes_of(r), records))
@@ -125,7 +126,7 @@ pub extern "C" fn vm_list_pairs(
     records: &mut [u32],
     list: &mut [u32],
 ) -> Listed
-    ensures { λ a. ⌜ listings a ≡ flatOf noList (pairsAnswer (now (points .entry)) (now (triangles .entry)) (axesOf r) (placementOf at) (now (labels .entry)) (now (records .entry)) (now (list .entry))) ⌝ }
+    ensures { λ a. ⌜ listing a ≡ flatOf noList (pairsAnswer (now (points .entry)) (now (triangles .entry)) (axesOf r) (placementOf at) (now (labels .entry)) (now (records .entry)) (now (list .entry))) ⌝ }
     ensures { λ _. ⌜ now (records .exit) ≡ recordsBuffer (now (points .entry)) (now (triangles .entry)) (axesOf r) (placementOf at) (now (labels .entry)) (now (records .entry)) (now (list .entry)) ⌝ }
     ensures { λ _. ⌜ now (list .exit) ≡ trianglesBuffer (now (points .entry)) (now (triangles .entry)) (axesOf r) (placementOf at) (now (labels .entry)) (now (records .entry)) (now (list .entry)) ⌝ }
 {

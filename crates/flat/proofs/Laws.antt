@@ -13,7 +13,7 @@ use Rattle.flat.specs.declared.Listed.{Listed}
 use Rattle.flat.specs.declared.Planned.{Planned}
 use Rattle.flat.specs.declared.Parted.{Parted}
 use Rattle.flat.specs.Flat.{Flat, flatOf, heard, Tells}
-use Rattle.flat.specs.Structs.{verdict, sized, filled, counted, listings, planned, parted}
+use Rattle.flat.specs.Structs.{verdict, sized, filled, counted, listing, planned, parted}
 
 -- ---- one law for every call
 
@@ -22,6 +22,16 @@ pub heard-flat : {A : Type 0} (none : A) (ns : List ℕ) (o : Outcome A) → isO
 heard-flat none ns (answers a) h g = refl
 heard-flat none ns (refuses zero place) h g = absurd (subst T h g)
 heard-flat none ns (refuses (suc n) place) h g = refl
+
+-- a call's answer, and a buffer that it wrote, where x is what the call was given for y
+pub told : {X A : Type 0} (none : A) (answer : X → Outcome A) (x y : X) (o : Outcome A) (f : Flat A) → x ≡ y → f ≡ flatOf none o → o ≡ answer x → f ≡ flatOf none (answer y)
+told none answer x y o f e p q = p ∙ ap (flatOf none) (q ∙ ap answer e)
+
+pub both : {X Y : Type 0} {x y : X} {u v : Y} → x ≡ y → u ≡ v → _≡_ {A = X × Y} (x, u) (y, v)
+both p q = λ t. (p t, q t)
+
+pub wrote : {X B : Type 0} (buffer : X → B) (x y : X) (m : B) → x ≡ y → m ≡ buffer x → m ≡ buffer y
+wrote buffer x y m e p = p ∙ ap buffer e
 
 -- a call's relation, of the flat answer
 pub tells : {A : Type 0} (none : A) (ns : List ℕ) (Allowed : Outcome A → Type 0) (f : Flat A) (o : Outcome A) → isOneOf 0 ns ≡ false → Gives ns o → f ≡ flatOf none o → Allowed o → Tells none Allowed f
@@ -48,7 +58,7 @@ filled-one a b p = λ t. record { number = p t .number; place = p t .place; scan
 pub counted-one : (a b : Counted) → counted a ≡ counted b → a ≡ b
 counted-one a b p = λ t. record { number = p t .number; place = p t .place; count = p t .value }
 
-pub listed-one : (a b : Listed) → listings a ≡ listings b → a ≡ b
+pub listed-one : (a b : Listed) → listing a ≡ listing b → a ≡ b
 listed-one a b p = λ t. record { number = p t .number; place = p t .place; cells = p t .value .cells; pairs = p t .value .pairs }
 
 pub planned-one : (a b : Planned) → planned a ≡ planned b → a ≡ b

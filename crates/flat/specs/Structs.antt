@@ -53,8 +53,8 @@ filled f = record { number = f .number; place = f .place; value = record { scans
 abbrev pub counted : Counted → Flat ℕ
 counted n = record { number = n .number; place = n .place; value = n .count }
 
-abbrev pub listings : Listed → Flat list-counts.Counts
-listings n = record { number = n .number; place = n .place; value = record { cells = n .cells; pairs = n .pairs } }
+abbrev pub listing : Listed → Flat list-counts.Counts
+listing n = record { number = n .number; place = n .place; value = record { cells = n .cells; pairs = n .pairs } }
 
 abbrev pub planned : Planned → Flat Planes
 planned p = record { number = p .number; place = p .place; value = record { first = p .first; count = p .count } }

@@ -12,7 +12,7 @@ ghost use Rattle.planes.specs.Planes.{outcomeOfPlanes};
 ghost use Rattle.planes.specs.Split.{outcomeOfSplit};
 ghost use Rattle.boxes.specs.Boxes as boxings;
 ghost use Rattle.flat.specs.Flat.{flatOf};
-ghost use Rattle.flat.specs.Structs.{axesOf, cellOf, placementOf, verdict, sized, filled, counted, listings, planned, parted, noGrid, noFill, noList, noPlanes, noSides, asAnswer};
+ghost use Rattle.flat.specs.Structs.{axesOf, cellOf, placementOf, verdict, sized, filled, counted, listing, planned, parted, noGrid, noFill, noList, noPlanes, noSides, asAnswer};
 use boxes::Boxing;
 use classes::Classing;
 use edits::Editing;
@@ -144,6 +144,8 @@ pub struct Part {
     pub start: usize,
     pub length: usize,
 }
+
+// ---- each answer made flat, case by case
 
 pub fn of_sizing(s: sizing::Sized) -> Sized
     ensures { λ a. ⌜ sized a ≡ flatOf noGrid (sizings.outcome s) ⌝ }
@@ -283,7 +285,7 @@ pub fn of_boxing(m: Boxing) -> Counted
 }
 
 pub fn of_listing(m: Listing) -> Listed
-    ensures { λ a. ⌜ listings a ≡ flatOf noList (lists.outcome m) ⌝ }
+    ensures { λ a. ⌜ listing a ≡ flatOf noList (lists.outcome m) ⌝ }
 {
     match m {
         Listing::Listed(n) => Listed {

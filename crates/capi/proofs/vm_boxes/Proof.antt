@@ -1,7 +1,8 @@
 -- `capi::vm_boxes` meets its contract: what boxes answer, flat, and their two outputs. Assumes nothing.
-use mathlib.Core.Path.{ap, _∙_}
 use Rattle.boxes.specs.Boxes.{boxesAnswer, pointsBuffer, trianglesBuffer}
-use Rattle.flat.specs.Flat.{flatOf}
+use Rattle.grid.specs.declared.Axes.{Axes}
+use Rattle.grid.specs.declared.Placement.{Placement}
+use Rattle.flat.proofs.Laws.{told, both, wrote}
 use borrow.Author.Needs.{needs}
 use Rattle.capi.proofs.vm_boxes.Statement.{statement}
 use Rattle.capi.proofs.vm_boxes.Tie as tie
@@ -27,14 +28,8 @@ same-length-2 c = search needs
 returns : tie.Need-returns
 returns c =
     let a = c .before .before .before .before .before .before .before .before .before .before .before .before .before .args in
-    let e = c .before .before .before .before .before .before .before .before .before .axes-of .ensures in
-    let g = c .before .before .before .before .before .before .before .before .placement-of .ensures in (
-      c .of-boxing .ensures ∙ ap (flatOf 0) (c .before .before .before .before .before .boxes .ensures .0 ∙ (λ t. boxesAnswer (a .labels .now) (e t) (g t) (a .label) (a .points .now) (a .triangles .now))),
-      (
-        c .before .before .before .before .before .boxes .ensures .1 .0 ∙ (λ t. pointsBuffer (a .labels .now) (e t) (g t) (a .label) (a .points .now) (a .triangles .now)),
-        c .before .before .before .before .before .boxes .ensures .1 .1 ∙ (λ t. trianglesBuffer (a .labels .now) (e t) (g t) (a .label) (a .points .now) (a .triangles .now)),
-      ),
-    )
+    let e = both (c .before .before .before .before .before .before .before .before .before .axes-of .ensures) (c .before .before .before .before .before .before .before .before .placement-of .ensures) in
+    (told 0 (λ (x : Axes × Placement). boxesAnswer (a .labels .now) (x .0) (x .1) (a .label) (a .points .now) (a .triangles .now)) _ _ _ _ e (c .of-boxing .ensures) (c .before .before .before .before .before .boxes .ensures .0), (wrote (λ (x : Axes × Placement). pointsBuffer (a .labels .now) (x .0) (x .1) (a .label) (a .points .now) (a .triangles .now)) _ _ _ e (c .before .before .before .before .before .boxes .ensures .1 .0), wrote (λ (x : Axes × Placement). trianglesBuffer (a .labels .now) (x .0) (x .1) (a .label) (a .points .now) (a .triangles .now)) _ _ _ e (c .before .before .before .before .before .boxes .ensures .1 .1)))
 
 pub vm-boxes-spec : {M : Type 1} → statement M
 vm-boxes-spec =

@@ -1,7 +1,7 @@
 -- `capi::vm_list_cells` meets its contract: what the list answers, flat, and its records. Assumes nothing.
-use mathlib.Core.Path.{ap, _∙_}
 use Rattle.list.specs.List.{cellsAnswer, cellsBuffer}
-use Rattle.flat.specs.Flat.{flatOf}
+use Rattle.grid.specs.declared.Axes.{Axes}
+use Rattle.flat.proofs.Laws.{told, wrote}
 use Rattle.flat.specs.Structs.{noList}
 use borrow.Author.Needs.{needs}
 use Rattle.capi.proofs.vm_list_cells.Statement.{statement}
@@ -22,10 +22,8 @@ same-length c = search needs
 returns : tie.Need-returns
 returns c =
     let a = c .before .before .before .before .before .before .before .before .args in
-    let e = c .before .before .before .before .before .axes-of .ensures in (
-      c .of-listing .ensures ∙ ap (flatOf noList) (c .before .before .before .list-cells .ensures .0 ∙ (λ t. cellsAnswer (a .labels .now) (e t) (a .records .now))),
-      c .before .before .before .list-cells .ensures .1 ∙ (λ t. cellsBuffer (a .labels .now) (e t) (a .records .now)),
-    )
+    let e = c .before .before .before .before .before .axes-of .ensures in
+    (told noList (λ (x : Axes). cellsAnswer (a .labels .now) x (a .records .now)) _ _ _ _ e (c .of-listing .ensures) (c .before .before .before .list-cells .ensures .0), wrote (λ (x : Axes). cellsBuffer (a .labels .now) x (a .records .now)) _ _ _ e (c .before .before .before .list-cells .ensures .1))
 
 pub vm-list-cells-spec : {M : Type 1} → statement M
 vm-list-cells-spec =

@@ -1,7 +1,8 @@
 -- `capi::vm_list_pairs` meets its contract: what the list answers, flat, and its two outputs. Assumes nothing.
-use mathlib.Core.Path.{ap, _∙_}
 use Rattle.pairs.specs.Paired.{pairsAnswer, recordsBuffer, trianglesBuffer}
-use Rattle.flat.specs.Flat.{flatOf}
+use Rattle.grid.specs.declared.Axes.{Axes}
+use Rattle.grid.specs.declared.Placement.{Placement}
+use Rattle.flat.proofs.Laws.{told, both, wrote}
 use Rattle.flat.specs.Structs.{noList}
 use borrow.Author.Needs.{needs}
 use Rattle.capi.proofs.vm_list_pairs.Statement.{statement}
@@ -28,14 +29,8 @@ same-length-2 c = search needs
 returns : tie.Need-returns
 returns c =
     let a = c .before .before .before .before .before .before .before .before .before .before .before .before .before .before .before .args in
-    let e = c .before .before .before .before .before .before .before .before .before .axes-of .ensures in
-    let g = c .before .before .before .before .before .before .before .before .placement-of .ensures in (
-      c .of-listing .ensures ∙ ap (flatOf noList) (c .before .before .before .before .before .list-pairs .ensures .0 ∙ (λ t. pairsAnswer (a .points .now) (a .triangles .now) (e t) (g t) (a .labels .now) (a .records .now) (a .list .now))),
-      (
-        c .before .before .before .before .before .list-pairs .ensures .1 .0 ∙ (λ t. recordsBuffer (a .points .now) (a .triangles .now) (e t) (g t) (a .labels .now) (a .records .now) (a .list .now)),
-        c .before .before .before .before .before .list-pairs .ensures .1 .1 ∙ (λ t. trianglesBuffer (a .points .now) (a .triangles .now) (e t) (g t) (a .labels .now) (a .records .now) (a .list .now)),
-      ),
-    )
+    let e = both (c .before .before .before .before .before .before .before .before .before .axes-of .ensures) (c .before .before .before .before .before .before .before .before .placement-of .ensures) in
+    (told noList (λ (x : Axes × Placement). pairsAnswer (a .points .now) (a .triangles .now) (x .0) (x .1) (a .labels .now) (a .records .now) (a .list .now)) _ _ _ _ e (c .of-listing .ensures) (c .before .before .before .before .before .list-pairs .ensures .0), (wrote (λ (x : Axes × Placement). recordsBuffer (a .points .now) (a .triangles .now) (x .0) (x .1) (a .labels .now) (a .records .now) (a .list .now)) _ _ _ e (c .before .before .before .before .before .list-pairs .ensures .1 .0), wrote (λ (x : Axes × Placement). trianglesBuffer (a .points .now) (a .triangles .now) (x .0) (x .1) (a .labels .now) (a .records .now) (a .list .now)) _ _ _ e (c .before .before .before .before .before .list-pairs .ensures .1 .1)))
 
 pub vm-list-pairs-spec : {M : Type 1} → statement M
 vm-list-pairs-spec =

@@ -1,7 +1,8 @@
 -- `capi::vm_mark` meets its contract: what marking answers, flat, and its labels. Assumes nothing.
-use mathlib.Core.Path.{ap, _∙_}
 use Rattle.marking.specs.Marked.{markAnswer, markLabels}
-use Rattle.flat.specs.Flat.{flatOf}
+use Rattle.grid.specs.declared.Axes.{Axes}
+use Rattle.grid.specs.declared.Placement.{Placement}
+use Rattle.flat.proofs.Laws.{told, both, wrote}
 use borrow.Author.Needs.{needs}
 use Rattle.capi.proofs.vm_mark.Statement.{statement}
 use Rattle.capi.proofs.vm_mark.Tie as tie
@@ -24,11 +25,8 @@ same-length c = search needs
 returns : tie.Need-returns
 returns c =
     let a = c .before .before .before .before .before .before .before .before .before .before .args in
-    let e = c .before .before .before .before .before .before .axes-of .ensures in
-    let g = c .before .before .before .before .before .placement-of .ensures in (
-      c .of-marking .ensures ∙ ap (flatOf tt) (c .before .before .before .mark .ensures .0 ∙ (λ t. markAnswer (a .points .now) (a .triangles .now) (e t) (g t) (a .labels .now))),
-      c .before .before .before .mark .ensures .1 ∙ (λ t. markLabels (a .points .now) (a .triangles .now) (e t) (g t) (a .labels .now)),
-    )
+    let e = both (c .before .before .before .before .before .before .axes-of .ensures) (c .before .before .before .before .before .placement-of .ensures) in
+    (told tt (λ (x : Axes × Placement). markAnswer (a .points .now) (a .triangles .now) (x .0) (x .1) (a .labels .now)) _ _ _ _ e (c .of-marking .ensures) (c .before .before .before .mark .ensures .0), wrote (λ (x : Axes × Placement). markLabels (a .points .now) (a .triangles .now) (x .0) (x .1) (a .labels .now)) _ _ _ e (c .before .before .before .mark .ensures .1))
 
 pub vm-mark-spec : {M : Type 1} → statement M
 vm-mark-spec =

@@ -1,7 +1,7 @@
 -- `capi::vm_planes` meets its contract: what planes answer, flat, and their output. Assumes nothing.
-use mathlib.Core.Path.{ap, _∙_}
 use Rattle.planes.specs.Planes.{planesAnswer, planesBuffer}
-use Rattle.flat.specs.Flat.{flatOf}
+use Rattle.grid.specs.declared.Placement.{Placement}
+use Rattle.flat.proofs.Laws.{told, wrote}
 use Rattle.flat.specs.Structs.{noPlanes}
 use borrow.Author.Needs.{needs}
 use Rattle.capi.proofs.vm_planes.Statement.{statement}
@@ -22,10 +22,8 @@ same-length c = search needs
 returns : tie.Need-returns
 returns c =
     let a = c .before .before .before .before .before .before .before .args in
-    let g = c .before .before .before .before .before .placement-of .ensures in (
-      c .of-planing .ensures ∙ ap (flatOf noPlanes) (c .before .before .before .planes-about .ensures .0 ∙ (λ t. planesAnswer (g t) (a .axis) (a .low) (a .high) (a .best) (a .step) (a .ds .now))),
-      c .before .before .before .planes-about .ensures .1 ∙ (λ t. planesBuffer (g t) (a .axis) (a .low) (a .high) (a .best) (a .step) (a .ds .now)),
-    )
+    let e = c .before .before .before .before .before .placement-of .ensures in
+    (told noPlanes (λ (x : Placement). planesAnswer x (a .axis) (a .low) (a .high) (a .best) (a .step) (a .ds .now)) _ _ _ _ e (c .of-planing .ensures) (c .before .before .before .planes-about .ensures .0), wrote (λ (x : Placement). planesBuffer x (a .axis) (a .low) (a .high) (a .best) (a .step) (a .ds .now)) _ _ _ e (c .before .before .before .planes-about .ensures .1))
 
 pub vm-planes-spec : {M : Type 1} → statement M
 vm-planes-spec =
