@@ -36,11 +36,18 @@ use Rattle.boxes.proofs.Laws.{boxes-numbers}
 use Rattle.listed.specs.Listed.{badRange, rangeFault}
 use Rattle.grid.proofs.Checks.{finds-if, gives-unless}
 use Rattle.grid.specs.declared.Checked.the-variants.{Fine}
+use Rattle.summary.specs.Summary.{Summarizes}
+use Rattle.summary.proofs.Once.{summary-one}
+use Rattle.records.specs.declared.Writing.{Writing}
+use Rattle.records.specs.declared.Writing.the-variants as writing
+use Rattle.records.specs.Records as records
+use Rattle.records.proofs.Laws as record-laws
 use Rattle.flat.specs.declared.Filled.{Filled}
+use Rattle.flat.specs.declared.Summarized.{Summarized}
 use Rattle.flat.specs.declared.Counted.{Counted}
 use Rattle.flat.specs.Flat.{flatOf, heard, Tells}
-use Rattle.flat.specs.Structs.{filled, counted, noGrid, noFill, noList, noPlanes, noSides, asAnswer}
-use Rattle.flat.proofs.Laws.{heard-flat, tells-one, filled-one, counted-one}
+use Rattle.flat.specs.Structs.{filled, counted, summarized, noGrid, noFill, noList, noPlanes, noSides, noSummary, asAnswer}
+use Rattle.flat.proofs.Laws.{heard-flat, tells-one, filled-one, counted-one, summarized-one}
 
 -- ---- fill and edits
 
@@ -79,6 +86,28 @@ edit-settled r e l a b m n p q = let w = tells-one 0 (Call r e l) one (counted a
         let g = as-editing p in
         let w = edit-laws.settled r e l (f .0) (g .0) x y (subst (λ z. Call r e l z x) (sym (f .1)) u) (subst (λ z. Call r e l z y) (sym (g .1)) v) in
         (sym (f .1) ∙ ap edits.outcome (w .0) ∙ g .1, w .1)
+
+-- ---- the program's input
+
+pub summarize-settled : (input : List ℕ) (a b : Summarized) → Tells noSummary (Summarizes input) (summarized a) → Tells noSummary (Summarizes input) (summarized b) → a ≡ b
+summarize-settled input a b p q =
+    summarized-one a b
+    (tells-one {B = Unit} noSummary (λ o u. Summarizes input o) (λ o v x y m n. (summary-one input o v m n, refl)) (summarized a) (summarized b) tt tt p q .0)
+
+as-writing : (o : Outcome ℕ) → (w : Writing) × (records.outcome w ≡ o)
+as-writing (answers n) = (writing.Wrote n, refl)
+as-writing (refuses n place) = (writing.Refused (record { number = n; place = place }), refl)
+
+pub run-settled : (input out : List ℕ) (a b : Counted) (m n : List ℕ)
+    → Tells 0 (λ o. records.Runs input out o m) (counted a) → Tells 0 (λ o. records.Runs input out o n) (counted b) → (a ≡ b) × (m ≡ n)
+run-settled input out a b m n p q = let w = tells-one 0 (records.Runs input out) one (counted a) (counted b) m n p q in (counted-one a b (w .0), w .1)
+  where
+    one : (o p : Outcome ℕ) (x y : List ℕ) → records.Runs input out o x → records.Runs input out p y → (o ≡ p) × (x ≡ y)
+    one o p x y u v =
+        let f = as-writing o in
+        let g = as-writing p in
+        let w = record-laws.settled input out (f .0) (g .0) x y (subst (λ z. records.Runs input out z x) (sym (f .1)) u) (subst (λ z. records.Runs input out z y) (sym (g .1)) v) in
+        (sym (f .1) ∙ ap records.outcome (w .0) ∙ g .1, w .1)
 
 -- ---- what is heard is what the call answered: 0 is no refusal's number
 

@@ -18,8 +18,10 @@ ghost use Rattle.planes.specs.declared.Side.the-variants.{First, Second};
 ghost use Rattle.planes.specs.Planes.{planesAnswer, planesBuffer};
 ghost use Rattle.planes.specs.Split.{splitAnswer, splitBuffer};
 ghost use Rattle.boxes.specs.Boxes as boxings;
+ghost use Rattle.summary.specs.Summary.{Summarizes};
+ghost use Rattle.records.specs.Records.{Runs};
 ghost use Rattle.flat.specs.Flat.{flatOf, Tells};
-ghost use Rattle.flat.specs.Structs.{axesOf, cellOf, placementOf, verdict, sized, filled, counted, listing, planned, parted, noGrid, noFill, noList, noPlanes, noSides, asAnswer, partAt};
+ghost use Rattle.flat.specs.Structs.{axesOf, cellOf, placementOf, verdict, sized, filled, counted, listing, planned, parted, summarized, noGrid, noFill, noList, noPlanes, noSides, noSummary, asAnswer, partAt};
 use fill::Mode;
 use flat::Axes;
 use flat::Cell;
@@ -31,6 +33,7 @@ use flat::Parted;
 use flat::Placement;
 use flat::Planned;
 use flat::Sized;
+use flat::Summarized;
 use flat::Verdict;
 use grid::Checked;
 
@@ -231,4 +234,18 @@ pub extern "C" fn vm_boxes(
         points,
         triangles,
     ))
+}
+
+#[no_mangle]
+pub extern "C" fn vm_summarize(input: &[u8]) -> Summarized
+    ensures { λ a. ⌜ Tells noSummary (Summarizes (now (input .entry))) (summarized a) ⌝ }
+{
+    flat::of_summing(summary::summarize(input))
+}
+
+#[no_mangle]
+pub extern "C" fn vm_run(input: &[u8], output: &mut [u8]) -> Counted
+    ensures { λ a. ⌜ Tells 0 (λ o. Runs (now (input .entry)) (now (output .entry)) o (now (output .exit))) (counted a) ⌝ }
+{
+    flat::of_writing(records::run(input, output))
 }

@@ -12,8 +12,9 @@ use Rattle.flat.specs.declared.Counted.{Counted}
 use Rattle.flat.specs.declared.Listed.{Listed}
 use Rattle.flat.specs.declared.Planned.{Planned}
 use Rattle.flat.specs.declared.Parted.{Parted}
+use Rattle.flat.specs.declared.Summarized.{Summarized}
 use Rattle.flat.specs.Flat.{Flat, flatOf, heard, Tells}
-use Rattle.flat.specs.Structs.{verdict, sized, filled, counted, listing, planned, parted}
+use Rattle.flat.specs.Structs.{verdict, sized, filled, counted, listing, planned, parted, summarized}
 
 -- ---- one law for every call
 
@@ -66,6 +67,18 @@ planned-one a b p = λ t. record { number = p t .number; place = p t .place; fir
 
 pub parted-one : (a b : Parted) → parted a ≡ parted b → a ≡ b
 parted-one a b p = λ t. record { number = p t .number; place = p t .place; first = p t .value .first; second = p t .value .second }
+
+pub summarized-one : (a b : Summarized) → summarized a ≡ summarized b → a ≡ b
+summarized-one a b p = λ t. record {
+  number = p t .number;
+  place = p t .place;
+  axes = record { r0 = p t .value .axes .r0; r1 = p t .value .axes .r1; r2 = p t .value .axes .r2 };
+  outside = p t .value .outside;
+  inside = p t .value .inside;
+  surface = p t .value .surface;
+  left = p t .value .left;
+  scans = p t .value .scans;
+}
 
 -- ---- calls that go by an equation: of the struct S of any of them, seen as a flat answer by `view`. Every lent buffer is one side of an equation too
 

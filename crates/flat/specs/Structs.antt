@@ -15,6 +15,7 @@ use Rattle.list.specs.declared.Counts as list-counts
 use Rattle.listed.specs.Listed.{badRange}
 use Rattle.planes.specs.declared.Planes.{Planes}
 use Rattle.planes.specs.declared.Sides.{Sides}
+use Rattle.summary.specs.declared.Summary.{Summary}
 use Rattle.flat.specs.declared.Axes.{Axes}
 use Rattle.flat.specs.declared.Cell.{Cell}
 use Rattle.flat.specs.declared.Placement.{Placement}
@@ -26,6 +27,7 @@ use Rattle.flat.specs.declared.Listed.{Listed}
 use Rattle.flat.specs.declared.Planned.{Planned}
 use Rattle.flat.specs.declared.Parted.{Parted}
 use Rattle.flat.specs.declared.Part.{Part}
+use Rattle.flat.specs.declared.Summarized.{Summarized}
 use Rattle.flat.specs.Flat.{Flat}
 
 -- ---- what is lent
@@ -62,6 +64,13 @@ planned p = record { number = p .number; place = p .place; value = record { firs
 abbrev pub parted : Parted → Flat Sides
 parted p = record { number = p .number; place = p .place; value = record { first = p .first; second = p .second } }
 
+abbrev pub summarized : Summarized → Flat Summary
+summarized n = record {
+  number = n .number;
+  place = n .place;
+  value = record { axes = axesOf (n .axes); outside = n .outside; inside = n .inside; surface = n .surface; left = n .left; scans = n .scans };
+}
+
 -- ---- the values of a refusal: 0 each
 
 abbrev pub nought : Float
@@ -81,6 +90,9 @@ noPlanes = record { first = 0; count = 0 }
 
 abbrev pub noSides : Sides
 noSides = record { first = 0; second = 0 }
+
+abbrev pub noSummary : Summary
+noSummary = record { axes = record { r0 = 0; r1 = 0; r2 = 0 }; outside = 0; inside = 0; surface = 0; left = 0; scans = 0 }
 
 -- ---- a check, and a part of a list
 

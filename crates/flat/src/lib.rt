@@ -11,8 +11,10 @@ ghost use Rattle.classes.specs.Classes as classings;
 ghost use Rattle.planes.specs.Planes.{outcomeOfPlanes};
 ghost use Rattle.planes.specs.Split.{outcomeOfSplit};
 ghost use Rattle.boxes.specs.Boxes as boxings;
+ghost use Rattle.summary.specs.Summary as summings;
+ghost use Rattle.records.specs.Records as writings;
 ghost use Rattle.flat.specs.Flat.{flatOf};
-ghost use Rattle.flat.specs.Structs.{axesOf, cellOf, placementOf, verdict, sized, filled, counted, listing, planned, parted, noGrid, noFill, noList, noPlanes, noSides, asAnswer};
+ghost use Rattle.flat.specs.Structs.{axesOf, cellOf, placementOf, verdict, sized, filled, counted, listing, planned, parted, summarized, noGrid, noFill, noList, noPlanes, noSides, noSummary, asAnswer};
 use boxes::Boxing;
 use classes::Classing;
 use edits::Editing;
@@ -23,6 +25,8 @@ use list::Listing;
 use marking::Marking;
 use planes::Planing;
 use planes::Splitting;
+use records::Writing;
+use summary::Summing;
 
 // ---- what is lent
 
@@ -106,7 +110,8 @@ pub struct Filled {
     pub left: usize,
 }
 
-// Of an edit, how many labels changed; of boxes, how many cells there are.
+// Of an edit, how many labels changed; of boxes, how many cells there are; of a run, how many bytes were
+// written.
 #[repr(C)]
 pub struct Counted {
     pub number: u8,
@@ -136,6 +141,19 @@ pub struct Parted {
     pub place: usize,
     pub first: usize,
     pub second: usize,
+}
+
+// The six lines' numbers.
+#[repr(C)]
+pub struct Summarized {
+    pub number: u8,
+    pub place: usize,
+    pub axes: Axes,
+    pub outside: usize,
+    pub inside: usize,
+    pub surface: usize,
+    pub left: usize,
+    pub scans: usize,
 }
 
 // A part of a lent list: where it begins there, and how long it is.
@@ -337,6 +355,61 @@ pub fn of_splitting(m: Splitting) -> Parted
             place: f.place,
             first: 0,
             second: 0,
+        },
+    }
+}
+
+pub fn of_summing(m: Summing) -> Summarized
+    ensures { λ a. ⌜ summarized a ≡ flatOf noSummary (summings.outcome m) ⌝ }
+{
+    match m {
+        Summing::Summed(n) => {
+            let r = n.axes;
+            Summarized {
+                number: 0,
+                place: 0,
+                axes: Axes {
+                    r0: r.r0,
+                    r1: r.r1,
+                    r2: r.r2,
+                },
+                outside: n.outside,
+                inside: n.inside,
+                surface: n.surface,
+                left: n.left,
+                scans: n.scans,
+            }
+        }
+        Summing::Refused(f) => Summarized {
+            number: f.number,
+            place: f.place,
+            axes: Axes {
+                r0: 0,
+                r1: 0,
+                r2: 0,
+            },
+            outside: 0,
+            inside: 0,
+            surface: 0,
+            left: 0,
+            scans: 0,
+        },
+    }
+}
+
+pub fn of_writing(m: Writing) -> Counted
+    ensures { λ a. ⌜ counted a ≡ flatOf 0 (writings.outcome m) ⌝ }
+{
+    match m {
+        Writing::Wrote(n) => Counted {
+            number: 0,
+            place: 0,
+            count: n,
+        },
+        Writing::Refused(f) => Counted {
+            number: f.number,
+            place: f.place,
+            count: 0,
         },
     }
 }

@@ -1,14 +1,14 @@
 -- An input has one reading (`read-one`), and it is refused with 1, 16 or 17 (`read-numbers`). Assumes nothing.
 use mathlib.Core.Bool.{Bool, true, false, cond}
 use mathlib.Core.List.{List, [], _∷_, _++_}
-use mathlib.Core.Path.{_≡_, refl, sym, ap, _∙_, subst}
+use mathlib.Core.Path.{_≡_, refl, sym, ap, subst}
 use Prim.Native.Nat.{ℕ, _+_, _-_}
 use native.Mathlib.Omega.{arith}
-use lib.Dec.{T, eqb, leb, ltb}
+use lib.Dec.{T, leb, ltb}
 use lib.Ieee.{Float}
 use lib.ListN.{length, getD}
 use Rattle.grid.specs.declared.Refusal.{Refusal}
-use Rattle.grid.specs.Answers.{Outcome, answers, refuses, isOneOf, Gives}
+use Rattle.grid.specs.Answers.{Outcome, refuses, isOneOf, Gives}
 use Rattle.sizing.specs.declared.Point.{Point}
 use Rattle.words.specs.Words.{wordAt}
 use Rattle.reader.specs.declared.Bytes.{Bytes}
@@ -28,7 +28,7 @@ use Rattle.reader.specs.declared.Start.{Start}
 use Rattle.reader.specs.declared.Start.the-variants as Start
 use Rattle.reader.specs.declared.Step.{Step}
 use Rattle.reader.specs.declared.Step.the-variants as Step
-use Rattle.reader.specs.Records.{bytesAt, markAt, wayOf, modeOf, headWith, headBy, startBy, startWith, startAt, whole, pointStep, triangleStep, endStep, stepBy, stepAt}
+use Rattle.reader.specs.Records.{bytesAt, markAt, wayOf, modeOf, headWith, headBy, startBy, startWith, startAt, whole, stepBy, stepAt}
 use Rattle.reader.specs.Reading.{Stream, counted, numbersOf, cornersOf, Reads, Read}
 
 -- ---- one reading

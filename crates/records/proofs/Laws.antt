@@ -4,13 +4,12 @@ use mathlib.Core.Path.{_≡_, sym, ap, _∙_, subst}
 use Prim.Native.Nat.{ℕ, _≤_}
 use native.Mathlib.Omega.{arith}
 use lib.ListN.{length}
-use Rattle.grid.specs.Answers.{Outcome, answers, refuses, Gives, unless}
+use Rattle.grid.specs.Answers.{Outcome, answers, refuses, Gives}
 use Rattle.grid.proofs.Checks.{gives-unless, answered}
 use Rattle.order.specs.Output.{roomFault}
 use Rattle.order.proofs.Outputs.{finds-room, room-fine}
 use Rattle.order.proofs.Outputs as outputs
 use Rattle.summary.specs.declared.Summary.{Summary}
-use Rattle.summary.specs.Summary.{Summarizes}
 use Rattle.summary.proofs.Once.{summary-one}
 use Rattle.records.specs.declared.Writing.{Writing}
 use Rattle.records.specs.declared.Writing.the-variants.{Wrote, Refused}

@@ -9,11 +9,10 @@ use lib.Ieee.{Float}
 use lib.ListN.{length}
 use borrow.Author.Tests.{eqb-true}
 use Rattle.grid.specs.declared.Axes.{Axes}
-use Rattle.grid.specs.declared.Checked.{Checked}
-use Rattle.grid.specs.declared.Checked.the-variants.{Fine, Fault}
+use Rattle.grid.specs.declared.Checked.the-variants.{Fine}
 use Rattle.grid.specs.declared.Placement.{Placement}
 use Rattle.grid.specs.declared.Refusal.{Refusal}
-use Rattle.grid.specs.Answers.{Outcome, answers, refuses, _andThen_, isOneOf, Finds, Gives}
+use Rattle.grid.specs.Answers.{Outcome, answers, refuses, isOneOf, Finds, Gives}
 use Rattle.grid.specs.First.{every}
 use Rattle.grid.specs.Grid.{cells}
 use Rattle.grid.proofs.Checks.{finds-if, finds-then, finds-first, gives-unless}
@@ -22,17 +21,16 @@ use Rattle.sizing.specs.Sizing.{Laid, points}
 use Rattle.sizing.proofs.Ranges.{size-numbers, resolution-numbers}
 use Rattle.mesh.specs.Faults.{missingFault}
 use Rattle.marking.specs.Marked.{markedLabels}
-use Rattle.fill.specs.declared.Counts.{Counts}
 use Rattle.fill.specs.declared.Mode.{Mode}
 use Rattle.fill.proofs.Laws.{fills-one}
 use Rattle.reader.specs.declared.Way.{Way}
 use Rattle.reader.specs.declared.Way.the-variants.{Size, Resolution}
-use Rattle.reader.specs.Reading.{Stream, Read}
+use Rattle.reader.specs.Reading.{Stream}
 use Rattle.reader.proofs.Once.{read-one, read-numbers}
 use Rattle.summary.specs.declared.Summary.{Summary}
 use Rattle.summary.specs.declared.Summing.{Summing}
 use Rattle.summary.specs.declared.Summing.the-variants.{Summed, Refused}
-use Rattle.summary.specs.Summary.{outcome, streamFault, sizedBy, laidOf, manyFault, summaryOf, Tallied, Mapped, Sums, Summarizes}
+use Rattle.summary.specs.Summary.{outcome, streamFault, sizedBy, laidOf, summaryOf, Tallied, Mapped, Sums, Summarizes}
 
 -- ---- one answer
 

@@ -1,10 +1,9 @@
 -- `reader::head_from` meets its contract. Assumes nothing.
 use borrow.Author.Needs.{needs}
 use native.Mathlib.Omega.{arith}
-use mathlib.Core.Path.{_≡_, sym, ap, _∙_}
-use Prim.Native.Nat.{ℕ, _≤_}
+use mathlib.Core.Path.{sym, ap, _∙_}
+use Prim.Native.Nat.{_≤_}
 use lib.ListN.{length, getD}
-use Rattle.reader.specs.declared.Bytes.{Bytes}
 use Rattle.reader.specs.Records.{headOf, headBy}
 use Rattle.reader.proofs.Laws.{there}
 use Rattle.reader.proofs.head_from.Statement.{statement}

@@ -1,7 +1,7 @@
 -- `reader::head_of` meets its contract: the way and then the mode. Assumes nothing.
 use borrow.Author.Needs.{needs}
-use mathlib.Core.Path.{_≡_, sym, _∙_}
-use Rattle.reader.specs.Records.{wayOf, modeOf, headWith}
+use mathlib.Core.Path.{sym, _∙_}
+use Rattle.reader.specs.Records.{modeOf, headWith}
 use Rattle.reader.proofs.head_of.Statement.{statement}
 use Rattle.reader.proofs.head_of.Tie as tie
 

@@ -2,7 +2,7 @@
 use borrow.Author.Needs.{needs}
 use borrow.Author.Tests.{lt-ltb, le-ltb, le-leb, lt-leb}
 use native.Mathlib.Omega.{arith}
-use mathlib.Core.Path.{_≡_, sym, ap, _∙_}
+use mathlib.Core.Path.{sym, ap, _∙_}
 use Rattle.sizing.specs.declared.Point.{Point}
 use Rattle.reader.specs.declared.Record.the-variants as Record
 use Rattle.reader.specs.declared.Step.the-variants.{Took}

@@ -1,6 +1,6 @@
 -- `reader::read` meets its contract: the head, and then the other records. Assumes nothing.
 use borrow.Author.Needs.{needs}
-use mathlib.Core.Path.{_≡_, sym, _∙_}
+use mathlib.Core.Path.{sym, _∙_}
 use Rattle.reader.specs.Reading.{Read}
 use Rattle.reader.proofs.Laws.{head-there}
 use Rattle.reader.proofs.read.Statement.{statement}

@@ -1,7 +1,7 @@
 -- `reader::read_on` meets its contract: the records one at a time. Assumes nothing.
 use borrow.Author.Needs.{needs}
 use native.Mathlib.Omega.{arith}
-use mathlib.Core.Path.{_≡_, sym, ap, _∙_}
+use mathlib.Core.Path.{sym, ap, _∙_}
 use Prim.Native.Nat.{_-_}
 use lib.ListN.{length}
 use Rattle.reader.proofs.Readings.{point-taken, triangle-taken, SoFar, begins, asked, one-point, one-triangle}

@@ -1,7 +1,7 @@
 -- `reader::take_record` meets its contract: the mark, and then by its kind. Assumes nothing.
 use borrow.Author.Needs.{needs}
 use native.Mathlib.Omega.{arith}
-use mathlib.Core.Path.{_≡_, sym, ap, _∙_}
+use mathlib.Core.Path.{sym, ap, _∙_}
 use Rattle.reader.specs.declared.Mark.the-variants.{Of}
 use Rattle.reader.specs.declared.Kind.{Kind}
 use Rattle.reader.specs.Records.{whole, markAt, stepBy}

@@ -2,7 +2,7 @@
 use borrow.Author.Needs.{needs}
 use borrow.Author.Tests.{le-leb, lt-leb}
 use native.Mathlib.Omega.{arith}
-use mathlib.Core.Path.{_≡_, sym, ap, _∙_}
+use mathlib.Core.Path.{sym, ap, _∙_}
 use Rattle.reader.specs.declared.Corners.{Corners}
 use Rattle.reader.specs.declared.Record.the-variants.{Triangle}
 use Rattle.reader.specs.declared.Step.the-variants.{Took}

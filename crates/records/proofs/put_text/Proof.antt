@@ -1,6 +1,6 @@
 -- `records::put_text` meets its contract: by what was answered. Assumes nothing.
 use borrow.Author.Needs.{needs}
-use mathlib.Core.Path.{_≡_, sym, ap}
+use mathlib.Core.Path.{sym, ap}
 use Rattle.summary.specs.declared.Summing.{Summing}
 use Rattle.summary.specs.Summary as summary
 use Rattle.text.proofs.Laws.{put-as}

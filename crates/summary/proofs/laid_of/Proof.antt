@@ -1,6 +1,6 @@
 -- `summary::laid_of` meets its contract: the checks, and then the size. Assumes nothing.
 use borrow.Author.Needs.{needs}
-use mathlib.Core.Path.{_≡_, sym, ap, _∙_}
+use mathlib.Core.Path.{sym, ap, _∙_}
 use Rattle.grid.specs.declared.Checked.{Checked}
 use Rattle.grid.specs.Answers.{unless}
 use Rattle.summary.specs.Summary.{sizedBy}

@@ -1,7 +1,6 @@
 -- `summary::map_of` meets its contract: the grid, and then the map. Assumes nothing.
 use borrow.Author.Needs.{needs}
-use mathlib.Core.Path.{_≡_, sym, ap, _∙_}
-use Rattle.sizing.specs.declared.Sized.{Sized}
+use mathlib.Core.Path.{sym, ap, _∙_}
 use Rattle.sizing.specs.Sizing as sizing
 use Rattle.summary.specs.Summary.{Sums}
 use Rattle.summary.proofs.Laws.{own-mesh}

@@ -5,7 +5,6 @@ use mathlib.Core.List.{List}
 use Prim.Native.Nat.{ℕ}
 use Rattle.grid.specs.declared.Checked.the-variants.{Fine}
 use Rattle.fill.specs.Modes.{fillFault}
-use Rattle.marking.specs.declared.Marking.{Marking}
 use Rattle.marking.specs.Marked as marked
 use Rattle.summary.proofs.Laws.{never-refused, is-marked, marks-fine}
 use Rattle.summary.specs.Summary.{outcome, Tallied}

@@ -1,6 +1,6 @@
 -- `summary::sized_by` meets its contract: by the way. Assumes nothing.
 use borrow.Author.Needs.{needs}
-use mathlib.Core.Path.{_≡_, sym, ap, _∙_}
+use mathlib.Core.Path.{sym, ap, _∙_}
 use Rattle.reader.specs.declared.Way.{Way}
 use Rattle.summary.specs.Summary.{sizedBy}
 use Rattle.summary.proofs.sized_by.Statement.{statement}

@@ -1,10 +1,8 @@
 -- `summary::summarize` meets its contract: the reading, and then the map. Assumes nothing.
 use borrow.Author.Needs.{needs}
 use native.Mathlib.Omega.{arith}
-use mathlib.Core.List.{List}
-use mathlib.Core.Path.{_≡_, sym, ap, subst, _∙_}
+use mathlib.Core.Path.{_≡_, sym, subst}
 use Prim.Native.Nat.{ℕ, _≤_}
-use lib.Ieee.{Float}
 use Rattle.grid.specs.declared.Checked.the-variants.{Fine}
 use Rattle.sizing.specs.Points.{lengthFault}
 use Rattle.reader.specs.declared.Reading.{Reading}

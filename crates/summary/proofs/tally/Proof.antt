@@ -1,12 +1,11 @@
 -- `summary::tally` meets its contract: the fill, and then the counts. Assumes nothing.
 use borrow.Author.Needs.{needs}
-use mathlib.Core.Path.{_≡_, sym, ap, subst}
+use mathlib.Core.Path.{_≡_, subst}
 use mathlib.Core.List.{List}
 use Prim.Native.Nat.{ℕ}
 use Rattle.grid.specs.declared.Axes.{Axes}
 use Rattle.grid.specs.declared.Checked.the-variants.{Fine}
-use Rattle.grid.specs.Answers.{Outcome, answers, Ends}
-use Rattle.fill.specs.declared.Counts.{Counts}
+use Rattle.grid.specs.Answers.{answers, Ends}
 use Rattle.fill.specs.declared.Filling.{Filling}
 use Rattle.fill.specs.declared.Mode.{Mode}
 use Rattle.fill.specs.Modes as modes

@@ -1,10 +1,10 @@
 -- `text::put_number` meets its contract: the space, and then the digits. Assumes nothing.
 use borrow.Author.Needs.{needs}
 use native.Mathlib.Omega.{arith}
-use mathlib.Core.List.{List, _∷_, []}
-use mathlib.Core.Path.{_≡_, sym, ap, subst, _∙_}
-use Prim.Native.Nat.{ℕ, _+_, _≤_}
-use lib.ListN.{length, length-set}
+use mathlib.Core.List.{_∷_, []}
+use mathlib.Core.Path.{_∙_}
+use Prim.Native.Nat.{_+_}
+use lib.ListN.{length-set}
 use Rattle.text.specs.Text.{decimal}
 use Rattle.text.proofs.Laws.{decimal-is, few-digits, put-one, put-then, put-as}
 use Rattle.text.proofs.put_number.Statement.{statement}

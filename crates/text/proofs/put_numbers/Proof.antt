@@ -1,7 +1,5 @@
 -- `text::put_numbers` meets its contract: one number after the other. Assumes nothing.
-use borrow.Author.Needs.{needs}
 use native.Mathlib.Omega.{arith}
-use mathlib.Core.Path.{_≡_, _∙_}
 use Prim.Native.Nat.{_-_}
 use lib.ListN.{length}
 use Rattle.text.proofs.Laws.{NumbersTo, none-put, ends-most, one-number, numbers-put}
