@@ -5,7 +5,7 @@ use Prim.Native.Nat.{ℕ}
 use lib.Ieee.{lt, le, eq, sub, mul, div, ofInt, ofBits, ofFields, odd}
 use lib.ListN.{replicate}
 use Rattle.numbers.specs.Rounding.{ceilOf, nearestOf}
-use Rattle.grid.specs.Answers.{answers}
+use Rattle.grid.specs.Answers.{Outcome, answers}
 use Rattle.grid.specs.Counts.{count}
 use Rattle.grid.specs.First.{firstNot, someBelow}
 use Rattle.grid.specs.Grid.{firstOnes}
@@ -20,6 +20,7 @@ use Rattle.words.specs.Words.{wordAt}
 use Rattle.reader.specs.declared.Way.the-variants.{Size}
 use Rattle.reader.specs.Reading.{Reads, Read}
 use Rattle.text.specs.Text.{decimalIn}
+use Rattle.summary.specs.declared.Summary.{Summary}
 use Rattle.summary.specs.Summary.{laidOf, summaryOf, Tallied, Mapped, Sums, Summarizes}
 use Rattle.samples.specs.Table.{Holds, printing, f, axes, lies, laid, counts, threePoints, twoTriangles, recordsOfThree, printedOfThree}
 use Rattle.samples.proofs.Filled.{marked-filled}
@@ -34,7 +35,10 @@ three-marked : markedLabels threePoints twoTriangles (axes 3 3 3) (lies (axes 3 
 unfolding firstOnes someBelow bounded wholeParts partsAt onAxis isCandidate dotZ edge cross reach apart someApart touching hits nearestOf lt le eq sub mul div ofInt
 three-marked = refl
 
-three-tallied : Tallied Flood (axes 3 3 3) (8 ∷ 8 ∷ replicate 25 0) (answers (summaryOf (axes 3 3 3) (counts 2 0) (8 ∷ 8 ∷ replicate 25 6)))
+abbrev said : Outcome Summary
+said = answers (summaryOf (axes 3 3 3) (counts 2 0) (8 ∷ 8 ∷ replicate 25 6))
+
+three-tallied : Tallied Flood (axes 3 3 3) (8 ∷ 8 ∷ replicate 25 0) said
 unfolding firstNot
 three-tallied = record { labels = 8 ∷ 8 ∷ replicate 25 6; counts = counts 2 0; filled = marked-filled .0; is = refl }
 
@@ -45,7 +49,7 @@ three-laid = refl
 pub three-printed : Holds (printing recordsOfThree printedOfThree)
 unfolding count joinAll decimalIn
 three-printed = (
-  answers (summaryOf (axes 3 3 3) (counts 2 0) (8 ∷ 8 ∷ replicate 25 6)),
-  Summarizes.complete three-read (Sums.laid three-laid (Mapped.few refl (subst (λ (l : List ℕ). Tallied Flood (axes 3 3 3) l _) (sym three-marked) three-tallied))),
+  said,
+  Summarizes.complete three-read (Sums.laid three-laid (Mapped.few refl (subst (λ (l : List ℕ). Tallied Flood (axes 3 3 3) l said) (sym three-marked) three-tallied))),
   refl,
 )

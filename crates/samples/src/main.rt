@@ -305,7 +305,7 @@ fn three_records() -> [u8; 80] {
 }
 
 // What the program prints of it.
-fn printed() {
+fn run_three() {
     let input = three_records();
     let mut output = [0u8; 256];
     match records::run(&input, &mut output) {
@@ -386,7 +386,7 @@ fn main() {
     replay::text(b"\n");
     marks();
     two_cells(Mode::Flood);
-    printed();
+    run_three();
     three(Mode::Flood);
     three(Mode::Cavities);
     five(Mode::Cavities);
