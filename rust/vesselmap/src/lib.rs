@@ -67,7 +67,7 @@ mod sys;
 mod types;
 
 pub use refusal::Refusal;
-pub use types::{label, Axes, Cell, Filled, Grid, Listed, Mode, Placement, Planes, Record, Records, Sides};
+pub use types::{label, Axes, Cell, Filled, Grid, Listed, Mode, Placement, Planes, Record, Records, Sides, Summary};
 
 /// The class of a triangle that no part names.
 pub const NO_CLASS: u32 = 4_294_967_294;
@@ -222,5 +222,31 @@ pub fn boxes(
     triangles: &mut [u32],
 ) -> Result<usize, Refusal> {
     let n = sys::boxes(labels, axes, placement, label, points, triangles);
+    n.verdict.give(n.count)
+}
+
+/// Maps the vessel of a program's input, a stream of records, and answers what the program says of it.
+///
+/// Refused with 16 or 17 (place: the byte offset of the record at fault) or 1 while the records are read, then with 2,
+/// 3 (place: the index of the number), 4 (place: the triangle), 5, 6, 7 or 8 (place: the axis; 0 for more than 32,768
+/// cells).
+pub fn summarize(input: &[u8]) -> Result<Summary, Refusal> {
+    let s = sys::summarize(input);
+    s.verdict.give(Summary {
+        axes: s.axes,
+        outside: s.outside,
+        inside: s.inside,
+        surface: s.surface,
+        left: s.left,
+        scans: s.scans,
+    })
+}
+
+/// The program itself: writes six lines, or the one line of a refusal of the input, and answers how many bytes they
+/// have. 256 bytes hold every text.
+///
+/// Refused with 14 where the output is shorter than the text.
+pub fn run(input: &[u8], output: &mut [u8]) -> Result<usize, Refusal> {
+    let n = sys::run(input, output);
     n.verdict.give(n.count)
 }

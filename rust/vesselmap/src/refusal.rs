@@ -22,14 +22,14 @@ impl Refusal {
     /// ```
     pub const fn sentence(&self) -> &'static str {
         match self.number {
-            1 => "A point or triangle length is not a multiple of 3, or there are more than 65,536 of either.",
+            1 => "A point or triangle length is not a multiple of 3, or there are more than 65,536 of either, or, in a program's input, more than 256.",
             2 => "There are no points.",
             3 => "A point or origin number is NaN, infinite, or over 2^20 in magnitude, or a plane's d is so, or over 2^30.",
             4 => "A triangle names a missing point, or an entry names a missing triangle.",
             5 => "The cell size is not within 2^-10 to 2^20, or a lent scale not within 2^-18 to 2^21, or the lent reciprocal is not 1 / scale rounded once.",
             6 => "The resolution is under 2 or over 254.",
             7 => "The largest extent is under 2^-10.",
-            8 => "An axis has no cells, or more than 256.",
+            8 => "An axis has no cells, or more than 256, or a program's grid has more than 32,768.",
             9 => "The label buffer's length differs from the product of the axes.",
             10 => "A triangle's vertex falls on no cell.",
             11 => "There is a label that the call does not take.",

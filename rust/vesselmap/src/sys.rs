@@ -66,6 +66,17 @@ pub struct Parted {
 }
 
 #[repr(C)]
+pub struct Summarized {
+    pub verdict: Verdict,
+    pub axes: Axes,
+    pub outside: usize,
+    pub inside: usize,
+    pub surface: usize,
+    pub left: usize,
+    pub scans: usize,
+}
+
+#[repr(C)]
 pub struct Part {
     pub start: usize,
     pub length: usize,
@@ -155,6 +166,8 @@ mod c {
             triangles: *mut u32,
             triangles_len: usize,
         ) -> Counted;
+        pub fn vm_summarize(input: *const u8, input_len: usize) -> Summarized;
+        pub fn vm_run(input: *const u8, input_len: usize, output: *mut u8, output_len: usize) -> Counted;
     }
 }
 
@@ -311,4 +324,14 @@ pub fn boxes(labels: &[u8], r: Axes, at: Placement, label: u8, points: &mut [f32
             triangles.len(),
         )
     }
+}
+
+pub fn summarize(input: &[u8]) -> Summarized {
+    // SAFETY: one slice, only read.
+    unsafe { c::vm_summarize(input.as_ptr(), input.len()) }
+}
+
+pub fn run(input: &[u8], output: &mut [u8]) -> Counted {
+    // SAFETY: one slice, only read, and one lent to be written, which it cannot overlap.
+    unsafe { c::vm_run(input.as_ptr(), input.len(), output.as_mut_ptr(), output.len()) }
 }

@@ -120,6 +120,23 @@ pub struct Sides {
     pub second: usize,
 }
 
+/// What the program says of an input.
+#[derive(Clone, Copy, Debug, PartialEq, Eq, Hash)]
+pub struct Summary {
+    /// How many cells the grid has along each axis.
+    pub axes: Axes,
+    /// How many cells are Outside.
+    pub outside: usize,
+    /// How many are Inside.
+    pub inside: usize,
+    /// How many are walls.
+    pub surface: usize,
+    /// How many are left undecided.
+    pub left: usize,
+    /// How often the fill scanned the whole grid.
+    pub scans: usize,
+}
+
 /// A record of the cell list.
 #[derive(Clone, Copy, Debug, PartialEq, Eq, Hash)]
 pub struct Record {
