@@ -29,8 +29,8 @@ use Rattle.order.proofs.Sums.{kept-count}
 use Rattle.boxes.specs.declared.Boxing.{Boxing}
 use Rattle.boxes.specs.declared.Boxing.the-variants.{Boxed, Refused}
 use Rattle.boxes.specs.Boxes.{outcome, corners, cornerOf, cellCorners, faces, faceOf, cellTriangles, boxCells, boxCount, boxPoints, boxTriangles, askedFault, boxesFault, roomsFault, allFault, boxesAnswer, pointsBuffer, trianglesBuffer}
-use Rattle.boxes.proofs.Rows.{join-at}
-use Rattle.boxes.proofs.Tables.{eight-corners, twelve-faces, corner-row, face-row, face-corner, corner-length, face-length}
+use Rattle.corners.proofs.Rows.{join-at}
+use Rattle.corners.proofs.Tables.{eight-corners, twelve-faces, corner-row, face-row, face-corner, corner-length, face-length}
 
 -- ---- the tables
 

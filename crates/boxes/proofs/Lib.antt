@@ -1,5 +1,3 @@
-pub mod Rows
-pub mod Tables
 pub mod Laws
 pub mod Writes
 pub mod Calls

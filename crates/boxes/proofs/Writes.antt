@@ -20,7 +20,7 @@ use Rattle.order.specs.Output.{Written}
 use Rattle.order.proofs.Orders.{Passing, passing-first, passing-no, passing-yes, passing-done, passing-room}
 use Rattle.order.proofs.Outputs.{written-none, written-then}
 use Rattle.boxes.specs.Boxes.{cellCorners, cellTriangles, boxCells, boxCount, boxPoints, boxTriangles}
-use Rattle.boxes.proofs.Rows.{written-as, written-row}
+use Rattle.corners.proofs.Rows.{written-as, written-row}
 use Rattle.boxes.proofs.Laws.{cell-points, triangles-length, box-count}
 
 -- ---- one box more, and how many there are

@@ -78,7 +78,7 @@ fn count_fault(count: usize) -> Checked
 fn entry_fault(entries: &[u32], count: usize) -> Checked
     ensures { λ f. ⌜ f ≡ entryFault count (now (entries .entry)) ⌝ }
 {
-    let n = mesh::first_missing(entries, count);
+    let n = lent::first_missing(entries, count);
     if n < entries.len() {
         return grid::fault(4, n);
     }

@@ -1,12 +1,12 @@
 -- What an edit's checks leave: a map of labels 6, 7 and 8, a cell of it, and the right kind of cell. Assumes nothing.
-use mathlib.Core.Bool.{Bool, true, false, not, _&&_}
+use mathlib.Core.Bool.{Bool, true, false, not}
 use mathlib.Core.Logic.{_⊎_, inl, inr, ⊎-elim, _↔_}
 use mathlib.Core.Path.{_≡_, sym, ap, subst}
 use mathlib.Core.List.{List, [], _∷_}
 use Prim.Native.Nat.{ℕ, _<_, _≤_}
 use native.Mathlib.Omega.{arith}
-use lib.Dec.{ltb, eqb}
-use borrow.Author.Tests.{ltb-true, lt-ltb, eqb-true, eqb-false, eq-eqb, ne-eqb, not-false}
+use lib.Dec.{eqb}
+use borrow.Author.Tests.{eqb-true, eqb-false, eq-eqb, ne-eqb, not-false}
 use Rattle.grid.specs.declared.Axes.{Axes}
 use Rattle.grid.specs.declared.Cell.{Cell}
 use Rattle.grid.specs.declared.Checked.the-variants.{Fine}
@@ -14,23 +14,10 @@ use Rattle.grid.specs.Answers.{_andThen_, faultIf, Finds}
 use Rattle.grid.specs.Checks.{takes, mapFault}
 use Rattle.grid.specs.Grid.{num, InGrid, at, Sheet}
 use Rattle.grid.proofs.Cells.{dec-eq, num-lt}
-use Rattle.grid.proofs.First.{both-true}
 use Rattle.grid.proofs.Checks.{both-fine, passed, taken-means, map-fine, finds-map, finds-if, finds-then}
+use Rattle.editable.proofs.Laws.{in-grid}
 use Rattle.edits.specs.Edits.{Edit, opening, closing, mapLabels, inGrid, wrongKind, cellFault, editFault}
-use Rattle.edits.specs.Closing.{Map}
-
--- 12 is given exactly for a cell that is not of the grid
-pub in-grid : (r : Axes) (c : Cell) → (inGrid r c ≡ true) ↔ InGrid r c
-in-grid r c = (to, back)
-  where
-    to : inGrid r c ≡ true → InGrid r c
-    to h =
-        let p = both-true (ltb (c .i) (r .r0) && ltb (c .j) (r .r1)) (ltb (c .k) (r .r2)) h in
-        let q = both-true (ltb (c .i) (r .r0)) (ltb (c .j) (r .r1)) (p .0) in
-        record { i-in = ltb-true (c .i) (r .r0) (q .0); j-in = ltb-true (c .j) (r .r1) (q .1); k-in = ltb-true (c .k) (r .r2) (p .1) }
-
-    back : InGrid r c → inGrid r c ≡ true
-    back h = λ t. (lt-ltb (c .i) (r .r0) (h .i-in) t && lt-ltb (c .j) (r .r1) (h .j-in) t) && lt-ltb (c .k) (r .r2) (h .k-in) t
+use Rattle.settling.specs.Closing.{Map}
 
 takes-three : (v : ℕ) → takes mapLabels v ≡ true → (v ≡ 6) ⊎ ((v ≡ 7) ⊎ (v ≡ 8))
 takes-three v h = ⊎-elim (λ e. of (e .0) (e .1)) (λ e. of (e .0) (e .1)) (taken-means mapLabels v h)

@@ -1,7 +1,6 @@
 pub mod Changes
 pub mod Faults
 pub mod Openings
-pub mod Settlings
 pub mod Closings
 pub mod Fresh
 pub mod Calls

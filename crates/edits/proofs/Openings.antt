@@ -9,7 +9,6 @@ use lib.ListN.{set, length-set}
 use Rattle.grid.specs.declared.Axes.{Axes}
 use Rattle.grid.specs.declared.Cell.{Cell}
 use Rattle.grid.specs.Grid.{num, InGrid, at, Sheet, Border}
-use Rattle.grid.specs.Paths.{Through}
 use Rattle.grid.specs.Ways.{room, beside}
 use Rattle.grid.proofs.Cells.{dec-eq, not-both, num-lt, stored}
 use Rattle.grid.proofs.Paths.{joined-kind}
@@ -17,29 +16,22 @@ use Rattle.grid.proofs.Ways.{beside-in, beside-face, face-way}
 use Rattle.reach.specs.declared.Seen.{Seen}
 use Rattle.reach.specs.declared.Trip.{Trip}
 use Rattle.reach.specs.Walk.{wayOf, Sees, Ready, Walked}
-use Rattle.reach.proofs.Tests.{true-false, flag}
+use Rattle.reach.proofs.Tests.{true-false}
 use Rattle.reach.proofs.Weights.{count-more}
 use Rattle.reach.proofs.Ways.{numberOf, way-numbered, numbered-low, seen-room}
+use Rattle.settling.proofs.Turned.{by-place}
+use Rattle.settling.proofs.Settlings.{reached}
 use Rattle.edits.specs.Edits.{opening, MeetsAir, aired, unreached, alone, other, changed, Edited}
-use Rattle.edits.proofs.Changes.{by-place, changed-count}
+use Rattle.edits.proofs.Changes.{changed-count}
 
--- a walk that does not stop reaches all
+-- how many labels a walk that does not stop changes
 module _ (r : Axes) (pass done : ℕ) (m : List ℕ) (s : Cell) (ok : Ready r pass done false m s) (e : List ℕ) (w : Trip) (k : Walked r pass done false m s e w) where
-  pub unmet : w .met ≡ false
-  unmet = flag (w .met) (λ q. true-false (k .met-at q .0) refl)
-
-  pub reached : (x : Cell) → InGrid r x → (Through r m pass s x × (at r e x ≡ done)) ⊎ ((Through r m pass s x → ⊥) × (at r e x ≡ at r m x))
-  reached x h = ⊎-elim
-      (λ q. inl (q .0, q .2))
-      (λ q. inr ((λ v. ⊎-elim (q .0) (λ u. ok .apart (sym (k .whole unmet x v) ∙ q .1 ∙ u)) (joined-kind v)), q .1))
-      (k .each x h)
-
   pub walk-changed : w .count ≡ changed m e
   walk-changed =
       let t = changed-count done m e (k .size) (by-place r m e (λ a b. (b ≡ a) ⊎ ((a ≡ done → ⊥) × (b ≡ done))) (ok .sheet .size) (λ x h. ⊎-elim
       (λ q. inr ((λ u. ⊎-elim (λ (i : x ≡ s). ok .fresh (ap (at r m) (sym i) ∙ u)) (λ i. ok .apart (sym u ∙ i)) (joined-kind (q .0))), q .1))
       (λ q. inl (q .1))
-      (reached x h))) in
+      (reached r pass done m s ok e w k x h))) in
       omega (arith, t, k .counted)
 
 module _ (r : Axes) (m : List ℕ) (c : Cell) (fits : Sheet r m) (hc : InGrid r c) (was : at r m c ≡ 8) where

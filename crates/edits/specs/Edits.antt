@@ -1,22 +1,22 @@
 -- 01, Edits: opening and closing a cell of any grid of labels 6, 7 and 8. Definitions only.
-use mathlib.Core.Bool.{Bool, true, false, cond, not, _&&_}
+use mathlib.Core.Bool.{true, false, cond, not}
 use mathlib.Core.Logic.{_⊎_}
 use mathlib.Core.Path.{_≡_}
 use mathlib.Core.List.{List, [], _∷_}
 use Prim.Native.Nat.{ℕ, _+_}
-use lib.Dec.{eqb, ltb}
+use lib.Dec.{eqb}
 use lib.ListN.{length, set}
 use Rattle.grid.specs.declared.Axes.{Axes}
 use Rattle.grid.specs.declared.Cell.{Cell}
 use Rattle.grid.specs.declared.Checked.{Checked}
-use Rattle.grid.specs.declared.Checked.the-variants.{Fine}
-use Rattle.grid.specs.declared.LabelSet.{LabelSet}
-use Rattle.grid.specs.Answers.{Outcome, answers, refuses, faultIf, _andThen_}
-use Rattle.grid.specs.Checks.{mapFault, spans}
+use Rattle.grid.specs.Answers.{Outcome, answers, refuses, _andThen_}
+use Rattle.grid.specs.Checks.{mapFault}
 use Rattle.grid.specs.Grid.{InGrid, num, at, Face, Border}
-use Rattle.grid.specs.Paths.{Joined, Through}
+use Rattle.grid.specs.Paths.{Through}
 use Rattle.edits.specs.declared.Editing.{Editing}
 use Rattle.edits.specs.declared.Editing.the-variants.{Changed, Refused}
+pub use Rattle.editable.specs.Editable.{mapLabels, inGrid, wrongKind, cellFault}
+pub use Rattle.settling.specs.Closing.{HasWay}
 
 -- 01's number and values for each case of `Editing`: "Each reports how many labels changed"
 abbrev pub outcome : Editing → Outcome ℕ
@@ -29,22 +29,7 @@ pub data Edit : Type 0 where
 
 -- ---- refusals
 
--- "Labels 6, 7, 8 only, else 11", after 8 and 9
-abbrev pub mapLabels : LabelSet
-mapLabels = spans 6 8 6 8
-
--- "12: a cell [...] outside its range"
-abbrev pub inGrid : Axes → Cell → Bool
-inGrid r c = (ltb (c .i) (r .r0) && ltb (c .j) (r .r1)) && ltb (c .k) (r .r2)
-
--- "13: opening a cell that is no surface, or closing one that is"; `surface` is whether the cell must be one
-abbrev pub wrongKind : Bool → ℕ → Bool
-wrongKind true label = not (eqb label 8)
-wrongKind false label = eqb label 8
-
-abbrev pub cellFault : Axes → List ℕ → Cell → Bool → Checked
-cellFault r l c surface = faultIf (not (inGrid r c)) 12 0 (faultIf (wrongKind surface (at r l c)) 13 0 Fine)
-
+-- 11, after 8 and 9; then 12 and 13
 abbrev pub editFault : Axes → List ℕ → Edit → Checked
 editFault r l (opening c) = mapFault mapLabels r l andThen cellFault r l c true
 editFault r l (closing c) = mapFault mapLabels r l andThen cellFault r l c false
@@ -65,10 +50,6 @@ pub data Opens (r : Axes) (l : List ℕ) (c d : Cell) (v : ℕ) : Type 0 where
 -- "c becomes 8"
 abbrev pub lidded : Axes → List ℕ → Cell → List ℕ
 lidded r l c = set l (num r c) 8
-
--- a "path of cells 6 to a border cell"; a border cell 6 is its own path
-abbrev pub HasWay : Axes → List ℕ → Cell → Type 0
-HasWay r l = Joined r (λ d. Border r d × (at r l d ≡ 6)) (λ d. at r l d ≡ 6)
 
 -- the label v of cell d after c was closed. "Close c: c becomes 8. If it was 6, each other cell 6 that was joined to c through cells 6 and now has no path of cells 6 to a border cell becomes 7."
 pub data Closes (r : Axes) (l : List ℕ) (c d : Cell) (v : ℕ) : Type 0 where

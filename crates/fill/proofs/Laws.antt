@@ -43,7 +43,7 @@ scans-one Cavities r l a b i j p q =
     let v = alternate-one r (subst (λ (x : List ℕ). Alternate r _ x (p .ended) (p .later)) (u .0) (p .turns)) (q .turns) in
     (p .labels ∙ ap (map (becomes 3 5 8)) (v .0) ∙ sym (q .labels), omega (arith, p .both, q .both, u .1, v .1))
 
-fills-one : (mode : Mode) (r : Axes) (l : List ℕ) (m n : Counts) (a b : List ℕ) → Fills mode r l m a → Fills mode r l n b → (m ≡ n) × (a ≡ b)
+pub fills-one : (mode : Mode) (r : Axes) (l : List ℕ) (m n : Counts) (a b : List ℕ) → Fills mode r l m a → Fills mode r l n b → (m ≡ n) × (a ≡ b)
 fills-one mode r l m n a b p q =
     let u = scans-one mode r l a b (m .scans) (n .scans) (p .scanned) (q .scanned) in
     let v : m .left ≡ n .left = p .counted ∙ ap left (u .0) ∙ sym (q .counted) in

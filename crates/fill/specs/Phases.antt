@@ -1,4 +1,4 @@
--- 01, Fill: the seeding, the phases and the last step of each mode. Definitions only.
+-- 01, Fill: the phases and the last step of each mode, after the seeding, which is that of the crate `seeds`. Definitions only.
 --
 -- "Labels by order in V's enum: 0 Undefined, 1 outside-to-walk, 2 inside-to-walk, 3 no-walk, 4 surface-walk-1, 5 surface-walk-2, 6 Outside, 7 Inside, 8 surface."
 use mathlib.Core.Bool.{Bool, true, false, not, cond}
@@ -7,19 +7,11 @@ use mathlib.Core.List.{List, map}
 use Prim.Native.Nat.{ℕ, suc, _+_}
 use lib.Dec.{eqb}
 use Rattle.grid.specs.declared.Axes.{Axes}
-use Rattle.grid.specs.declared.Cell.{Cell}
-use Rattle.grid.specs.Grid.{at, labelsBy, onBorder}
 use Rattle.grid.specs.Passes.{becomes}
 use Rattle.spread.specs.declared.Phase.{Phase}
 use Rattle.spread.specs.declared.Walkers.the-variants.{Nobody, Those}
 use Rattle.spread.specs.Run.{Run}
-
--- "All border cells with label 0 become 1"
-abbrev pub seedOf : Axes → List ℕ → Cell → ℕ
-seedOf r l c = cond (onBorder r c) (becomes 0 0 1 (at r l c)) (at r l c)
-
-abbrev pub seeded : Axes → List ℕ → List ℕ
-seeded r l = labelsBy r (seedOf r l)
+pub use Rattle.seeds.specs.Seeds.{seedOf, seeded}
 
 -- ---- the phases
 

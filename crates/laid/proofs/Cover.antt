@@ -14,6 +14,7 @@ use lib.Ieee.Scale.{finite}
 use lib.Ieee.Positive.{num, den, den-pos, between}
 use borrow.Author.Needs.{zero≤}
 use borrow.Author.Tests.{ltb-false, leb-true, eqb-true, lt-ltb, le-ltb, le-leb}
+use Rattle.grid.proofs.First.{both-true}
 use Rattle.numbers.specs.declared.Whole.the-variants.{Of, TooLarge}
 use Rattle.numbers.specs.Rounding.{parts, half, limit, pickWhole, nearestOf}
 use Rattle.numbers.proofs.Order.{eqb-sym, le-test}
@@ -23,7 +24,6 @@ use Rattle.sizing.specs.Sizing.{extent}
 use Rattle.sizing.proofs.Ranges.{extent-finite}
 use Rattle.sizing.proofs.Ratio.{Extent, difference}
 use Rattle.mesh.specs.Mesh.{wholeParts, partsAt, onAxis}
-use Rattle.mesh.proofs.Laws.{both-l, both-r}
 use Rattle.laid.proofs.Near.{plain, Near, near-finite, near, div-is, mul-near}
 
 -- ---- a coordinate e * (1 / s), where e is at most d, and d over s is at most n + 1/8: it is at most n + 1/4
@@ -120,8 +120,8 @@ Ordered true a true b = b ≤ a
 ordered : (s : Bool) (a : ℕ) (t : Bool) (b : ℕ) → (below s a t b || level s a t b) ≡ true → Ordered s a t b
 ordered false a false b h = leb-true a b (sym (le-test a b) ∙ h)
 ordered false a true b h =
-    let p : a ≡ b = eqb-true a b (both-l (eqb a b) (eqb a 0) h) in
-    let q : a ≡ 0 = eqb-true a 0 (both-r (eqb a b) (eqb a 0) h) in
+    let p : a ≡ b = eqb-true a b (both-true (eqb a b) (eqb a 0) h .0) in
+    let q : a ≡ 0 = eqb-true a 0 (both-true (eqb a b) (eqb a 0) h .1) in
     (q, sym p ∙ q)
 ordered true a false b h = tt
 ordered true a true b h = leb-true b a (sym (ap (λ (e : Bool). ltb b a || (e && true)) (eqb-sym a b) ∙ le-test b a) ∙ h)

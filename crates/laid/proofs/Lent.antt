@@ -1,31 +1,28 @@
 -- The placement that sizing answers is one that the calls take: neither 3 nor 5 follows from it. So a mesh over points that were sized is refused for its triangles alone (`size-mesh`, `resolution-mesh`). Assumes nothing.
-use mathlib.Core.Path.{_≡_, refl, sym, ap, _∙_, subst}
+use mathlib.Core.Path.{_≡_, refl, sym, ap, subst}
 use mathlib.Core.Bool.{Bool, true, false, not, _&&_}
 use mathlib.Core.List.{List, [], _∷_}
 use Prim.Native.Nat.{ℕ, zero, suc, _+_, _-_, _*_, _^_, _≤_, _<_}
 use native.Mathlib.Omega.{arith}
-use lib.Dec.{T, lit≤, lit<}
-use lib.IntN.{pos}
+use lib.Dec.{T}
 use lib.ListN.{length, getD}
-use lib.Ieee.{Float, nan, inf, fin, up, down, binary32, le, lt, eq}
-use lib.Ieee.Positive.{num, den, den-pos, positive, between, le→cross, cross→le}
+use lib.Ieee.{Float, nan, inf, fin, up, down, le, lt, eq}
+use lib.Ieee.Positive.{num, den, den-pos, between, le→cross, cross→le}
 use borrow.Author.Tests.{eq-eqb}
 use Rattle.grid.specs.declared.Axes.{Axes}
-use Rattle.grid.specs.declared.Checked.{Checked}
 use Rattle.grid.specs.declared.Checked.the-variants.{Fine}
 use Rattle.grid.specs.declared.Placement.{Placement}
 use Rattle.grid.specs.Answers.{answers, _andThen_}
-use Rattle.grid.specs.Checks.{gridFault}
 use Rattle.grid.specs.Grid.{Sound, cells}
+use Rattle.grid.proofs.First.{both-true}
 use Rattle.grid.proofs.Checks.{passed, not-false, both-fine, answered, fault-not, first-fine, axes-fine, buffer-fine}
 use Rattle.sizing.specs.Points.{bounded, pointsFault, lengthFault, noneFault, numbersFault}
-use Rattle.sizing.specs.Sizing.{Laid, points, extent, spansOf, leastSize, greatestSize, sizeFault, sizeAxes, sizeGrid, bySize, gridOf, placedAt, leastExtent, resolutionFault, extentFault, countOf, mainOf, dmainOf, resolutionAxes, resolutionScale, resolutionGrid, byResolution}
+use Rattle.sizing.specs.Sizing.{Laid, points, extent, spansOf, leastSize, greatestSize, sizeFault, sizeAxes, sizeGrid, bySize, gridOf, placedAt, leastExtent, resolutionFault, extentFault, mainOf, dmainOf, resolutionAxes, resolutionScale, resolutionGrid, byResolution}
 use Rattle.sizing.proofs.Laws.{all-bounded, resolution-fine}
 use Rattle.sizing.proofs.Extremes.{x-spanned, y-spanned, z-spanned}
 use Rattle.sizing.proofs.Ranges.{is-laid, of-main, extents, main-largest}
 use Rattle.sizing.proofs.Ratio.{Extent}
-use Rattle.mesh.specs.Faults.{originFault, missingFault, leastScale, greatestScale, lentFault, lengthsFault, lentNumbersFault, inputFault, offFault, meshFault}
-use Rattle.mesh.proofs.Laws.{both-l, both-r}
+use Rattle.mesh.specs.Faults.{originFault, missingFault, leastScale, greatestScale, lentFault, lentNumbersFault, inputFault, offFault, meshFault}
 use Rattle.laid.proofs.Near.{plain}
 use Rattle.laid.proofs.Cover.{inverse, over-near}
 use Rattle.laid.proofs.Own.{size-never-10, resolution-never-10, positive-plain, plain-positive, main-plain, main-least, main-most}
@@ -91,8 +88,8 @@ mesh-own ps ts r at len a b i = a i andThen b i
 size-lendable : (size : Float) → sizeFault size ≡ Fine → Lendable size
 size-lendable size h =
     let b = not-false (le leastSize size && le size greatestSize) (passed (not (le leastSize size && le size greatestSize)) 5 0 Fine h .0) in
-    let lo : T (le leastSize size) = subst T (sym (both-l (le leastSize size) (le size greatestSize) b)) tt in
-    let hi : T (le size greatestSize) = subst T (sym (both-r (le leastSize size) (le size greatestSize) b)) tt in
+    let lo : T (le leastSize size) = subst T (sym (both-true (le leastSize size) (le size greatestSize) b .0)) tt in
+    let hi : T (le size greatestSize) = subst T (sym (both-true (le leastSize size) (le size greatestSize) b .1)) tt in
     let p = between leastSize size greatestSize tt tt lo hi in
     record {
       is-plain = positive-plain size p;

@@ -35,11 +35,11 @@ use Rattle.sizing.proofs.Ratio.{Extent, Exact, Capped, round-capped, whole-part
 use Rattle.grid.specs.declared.Axes.{Axes}
 use Rattle.grid.specs.declared.Placement.{Placement}
 use Rattle.grid.proofs.Checks.{first-fine}
+use Rattle.grid.proofs.First.{both-true}
 use lib.ListN.{getD}
 use Rattle.mesh.specs.Faults.{missingFault, offFault}
 use Rattle.mesh.proofs.Laws.{named}
 use Rattle.mesh.specs.Mesh.{partsAt, vertexOf, onAxis, onGrid}
-use Rattle.mesh.proofs.Laws.{both-l, both-r}
 use Rattle.laid.proofs.Near.{plain, Near, value-plain, near, mul-is, div-is, div-near}
 use Rattle.laid.proofs.Cover.{inverse, little, times, le-at-most, extent-kinds, Scale, point-on}
 
@@ -163,8 +163,8 @@ size-on-grid ps size l h v is-point =
     let f = both-fine (pointsFault ps) (sizeFault size) (w .0) in
     let e = is-laid ps (f .0) size (sizeAxes s size) l (w .1) in
     let b = not-false (le leastSize size && le size greatestSize) (passed (not (le leastSize size && le size greatestSize)) 5 0 Fine (f .1) .0) in
-    let lo = both-l (le leastSize size) (le size greatestSize) b in
-    let hi = both-r (le leastSize size) (le size greatestSize) b in
+    let lo = both-true (le leastSize size) (le size greatestSize) b .0 in
+    let hi = both-true (le leastSize size) (le size greatestSize) b .1 in
     let c = size-counts ps size (f .0) (f .1) in
     let d = extents ps (f .0) in
     subst (λ (x : Laid). onGrid (x .axes) (vertexOf ps (x .placement) v) ≡ true) (e .1)

@@ -18,7 +18,7 @@ use Rattle.grid.specs.declared.Checked.{Checked}
 use Rattle.grid.specs.declared.Checked.the-variants.{Fine, Fault}
 use Rattle.grid.specs.Answers.{Outcome, answers, refuses, isOneOf, Finds, Gives, unless, lentAfter}
 use Rattle.grid.specs.Grid.{Sound, InGrid, cells, num, at}
-use Rattle.grid.proofs.First.{some-below}
+use Rattle.grid.proofs.First.{some-below, both-true}
 use Rattle.grid.proofs.Cells.{num-lt, labels-length, labels-one, labels-at}
 use Rattle.grid.proofs.Checks.{passed, or-false, not-false, finds-if, finds-then, finds-first, finds-grid, gives-unless}
 use Rattle.ints.specs.Bound.{cons3}
@@ -28,7 +28,7 @@ use Rattle.touch.specs.Touch.{vertex, touching}
 use Rattle.touch.proofs.Meaning.{own-cell}
 use Rattle.mesh.specs.Mesh.{vertexOf, onGrid, triangles, corner, triangleOf, isCandidate}
 use Rattle.mesh.specs.Faults.{originFault, names, missingFault, leastScale, greatestScale, lentFault, lengthsFault, lentNumbersFault, inputFault, meshFault}
-use Rattle.mesh.proofs.Laws.{both-l, both-r, mesh-fine, on-cells, on-vertex, IsCellOf, own-in, own-is-candidate}
+use Rattle.mesh.proofs.Laws.{mesh-fine, on-cells, on-vertex, IsCellOf, own-in, own-is-candidate}
 use Rattle.marking.specs.declared.Marking.{Marking}
 use Rattle.marking.specs.declared.Marking.the-variants.{Marked, Refused}
 use Rattle.marking.specs.Marked.{outcome, hits, isSurface, markOf, markedLabels, markAnswer, markLabels}
@@ -128,7 +128,7 @@ module _ (ps : List Float) (ts : List ℕ) (r : Axes) (p : Placement) (c : Cell)
     (λ h.
         let w = some-below (λ t. hits ps ts r p t c) (triangles ts) .0 (eight (isSurface ps ts r p c) (sym label-is ∙ h)) in
         let t = triangleOf ps ts p (w .0) in
-        (w .0, w .1, both-l (isCandidate t r c) (touching t c) (w .2), both-r (isCandidate t r c) (touching t c) (w .2))),
+        (w .0, w .1, both-true (isCandidate t r c) (touching t c) (w .2) .0, both-true (isCandidate t r c) (touching t c) (w .2) .1)),
     (λ w.
         let t = triangleOf ps ts p (w .0) in
         let both : (isCandidate t r c && touching t c) ≡ true = rw (w .2, w .3) in

@@ -12,7 +12,7 @@ use borrow.Author.Tests.{le-leb, lt-leb, lt-ltb, le-ltb, leb-true, ltb-true}
 use Rattle.grid.specs.declared.Axes.{Axes}
 use Rattle.grid.specs.declared.Cell.{Cell}
 use Rattle.grid.specs.Grid.{InGrid, num, at, Sheet}
-use Rattle.grid.proofs.First.{le-or-lt}
+use Rattle.grid.proofs.First.{le-or-lt, both-true}
 use Rattle.grid.proofs.Cells.{cell-path, sheet-kept, stored}
 use Rattle.touch.specs.declared.Slabs.{Slabs}
 use Rattle.touch.specs.Touch.{touching}
@@ -22,7 +22,7 @@ use Rattle.mesh.specs.declared.Ends.{Ends}
 use Rattle.mesh.specs.declared.Block.{Block}
 use Rattle.mesh.specs.Mesh.{isCandidate}
 use Rattle.mesh.specs.Ranges.{BlockOf, between, holds}
-use Rattle.mesh.proofs.Laws.{both-l, both-r, block-test}
+use Rattle.mesh.proofs.Laws.{block-test}
 use Rattle.marking.specs.Painted.{Painted, leftIn, one, rowOf}
 
 -- ---- painting
@@ -202,8 +202,8 @@ module _ (s : Slabs) (e : Ends) where
 
 one-is : (n x : ℕ) → between (one n) x ≡ true → x ≡ n
 one-is n x h =
-    let p = leb-true n x (both-l (leb n x) (ltb x (n + 1)) h) in
-    let q = ltb-true x (n + 1) (both-r (leb n x) (ltb x (n + 1)) h) in
+    let p = leb-true n x (both-true (leb n x) (ltb x (n + 1)) h .0) in
+    let q = ltb-true x (n + 1) (both-true (leb n x) (ltb x (n + 1)) h .1) in
     omega arith
 
 one-here : (n : ℕ) → between (one n) n ≡ true
@@ -219,8 +219,8 @@ holds-is i j k c h =
     let x = between (one i) (c .i) in
     let y = between (one j) (c .j) in
     let z = between (one k) (c .k) in
-    let xy = both-l (x && y) z h in
-    cell-path c (record { i = i; j = j; k = k }) (one-is i (c .i) (both-l x y xy)) (one-is j (c .j) (both-r x y xy)) (one-is k (c .k) (both-r (x && y) z h))
+    let xy = both-true (x && y) z h .0 in
+    cell-path c (record { i = i; j = j; k = k }) (one-is i (c .i) (both-true x y xy .0)) (one-is j (c .j) (both-true x y xy .1)) (one-is k (c .k) (both-true (x && y) z h .1))
 
 -- a store at a cell paints it alone
 pub painted-cell : (r : Axes) (s : Slabs) (l : List ℕ) (i j k w : ℕ) → Sheet r l → InGrid r (record { i = i; j = j; k = k })

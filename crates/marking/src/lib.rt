@@ -101,8 +101,8 @@ pub fn sweep_of(ps: &[f32], ts: &[u32], r: Axes, at: Placement, t: usize) -> Swe
     ensures { λ s. ⌜ Sweeps (now (ps .entry)) (now (ts .entry)) r at t s ⌝ }
 {
     let triangle = mesh::triangle_of(ps, ts, at, t);
-    let block = mesh::candidates(triangle, r);
-    let slabs = touch::slabs_of(triangle);
+    let block = candidates::candidates(triangle, r);
+    let slabs = slabs::slabs_of(triangle);
     Sweep { block, slabs }
 }
 
@@ -134,7 +134,7 @@ pub fn mark(points: &[f32], triangles: &[u32], r: Axes, at: Placement, labels: &
     ensures { λ m. ⌜ outcome m ≡ markAnswer (now (points .entry)) (now (triangles .entry)) r at (now (labels .entry)) ⌝ }
     ensures { λ _. ⌜ now (labels .exit) ≡ markLabels (now (points .entry)) (now (triangles .entry)) r at (now (labels .entry)) ⌝ }
 {
-    match mesh::mesh_fault(points, triangles, r, at, labels.len()) {
+    match lent::mesh_fault(points, triangles, r, at, labels.len()) {
         Checked::Fault(f) => Marking::Refused(f),
         Checked::Fine => {
             clear(labels);

@@ -22,6 +22,7 @@ use Rattle.grid.specs.declared.Checked.the-variants.{Fine}
 use Rattle.grid.specs.Grid.{Axis, Sound, InGrid, cells}
 use Rattle.grid.specs.Checks.{axesFault}
 use Rattle.grid.proofs.Checks.{both-fine, axes-fine, buffer-fine, first-fine}
+use Rattle.grid.proofs.First.{both-true}
 use Rattle.ints.specs.Bound.{In, Each, arg, in-add, in-eq, in3, every3}
 use Rattle.ints.specs.Order.{lesser, greater, lt-lesser}
 use Rattle.ints.specs.Parts.{eq-sub, pos-sub}
@@ -52,21 +53,13 @@ parts-fits p o r = go (nearestOf parts (mul binary32 (sub binary32 p o) r)) (nea
     go TooLarge f = sfits-lit tt
     go NotANumber f = sfits-lit tt
 
-pub both-l : (a b : Bool) → (a && b) ≡ true → a ≡ true
-both-l true b h = refl
-both-l false b h = h
-
-pub both-r : (a b : Bool) → (a && b) ≡ true → b ≡ true
-both-r true b h = h
-both-r false b h = absurd (true≢false (sym h))
-
 -- a coordinate that falls on one of at most 256 cells: its cell, and its range
 pub on-held : (n : ℕ) (q : ℤ) → onAxis n q ≡ true → (i : ℕ) × (cellOf q ≡ pos i) × (i < n)
 unfolding onAxis
 on-held n q h = go (cellOf q) refl h
   where
     go : (z : ℤ) → cellOf q ≡ z → (leZ (pos 0) z && ltZ z (pos n)) ≡ true → (i : ℕ) × (cellOf q ≡ pos i) × (i < n)
-    go (pos i) e t = (i, e, ltb-true i n (both-r (leZ (pos 0) (pos i)) (ltb i n) t))
+    go (pos i) e t = (i, e, ltb-true i n (both-true (leZ (pos 0) (pos i)) (ltb i n) t .1))
     go (negsuc i) e t = absurd (true≢false (sym t))
 
 pub on-axis-held : (n : ℕ) (q : ℤ) → Axis n → onAxis n q ≡ true → Held (cellOf q)
@@ -83,13 +76,13 @@ on-bound n q a h =
 
 module _ (r : Axes) (v : List ℤ) (h : onGrid r v ≡ true) where
   pub on-i : onAxis (r .r0) (along v 0) ≡ true
-  on-i = both-l (onAxis (r .r0) (along v 0)) (onAxis (r .r1) (along v 1)) (both-l (onAxis (r .r0) (along v 0) && onAxis (r .r1) (along v 1)) (onAxis (r .r2) (along v 2)) h)
+  on-i = both-true (onAxis (r .r0) (along v 0)) (onAxis (r .r1) (along v 1)) (both-true (onAxis (r .r0) (along v 0) && onAxis (r .r1) (along v 1)) (onAxis (r .r2) (along v 2)) h .0) .0
 
   pub on-j : onAxis (r .r1) (along v 1) ≡ true
-  on-j = both-r (onAxis (r .r0) (along v 0)) (onAxis (r .r1) (along v 1)) (both-l (onAxis (r .r0) (along v 0) && onAxis (r .r1) (along v 1)) (onAxis (r .r2) (along v 2)) h)
+  on-j = both-true (onAxis (r .r0) (along v 0)) (onAxis (r .r1) (along v 1)) (both-true (onAxis (r .r0) (along v 0) && onAxis (r .r1) (along v 1)) (onAxis (r .r2) (along v 2)) h .0) .1
 
   pub on-k : onAxis (r .r2) (along v 2) ≡ true
-  on-k = both-r (onAxis (r .r0) (along v 0) && onAxis (r .r1) (along v 1)) (onAxis (r .r2) (along v 2)) h
+  on-k = both-true (onAxis (r .r0) (along v 0) && onAxis (r .r1) (along v 1)) (onAxis (r .r2) (along v 2)) h .1
 
 -- ---- what the checks say
 

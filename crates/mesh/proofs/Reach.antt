@@ -22,11 +22,12 @@ use Rattle.sizing.proofs.Ratio.{Capped, Exact, round-capped}
 use Rattle.grid.specs.declared.Checked.the-variants.{Fine}
 use Rattle.grid.specs.declared.Placement.{Placement}
 use Rattle.grid.proofs.Checks.{passed, both-fine, not-false, first-fine}
+use Rattle.grid.proofs.First.{both-true}
 use Rattle.ints.specs.Bound.{cons3}
 use Rattle.sizing.specs.Sizing.{points, coord}
 use Rattle.mesh.specs.Mesh.{wholeParts, partsAt, vertexOf}
 use Rattle.mesh.specs.Faults.{originFault, leastScale, greatestScale, lentFault, lentNumbersFault}
-use Rattle.mesh.proofs.Laws.{both-l, both-r, within-points}
+use Rattle.mesh.proofs.Laws.{within-points}
 
 -- ---- a rounded fraction
 
@@ -201,8 +202,8 @@ coordinate-whole at h p o P O =
     let s = at .scale in
     let r = eq (at .reciprocal) (div binary32 (fin false 1 (pos 0)) s) in
     let all = not-false (le leastScale s && le s greatestScale && r) (passed _ 5 0 Fine h .0) in
-    let ends = both-l (le leastScale s && le s greatestScale) r all in
-    let w = whole parts p o s (at .reciprocal) P O (both-l (le leastScale s) (le s greatestScale) ends) (both-r (le leastScale s) (le s greatestScale) ends) (both-r (le leastScale s && le s greatestScale) r all) in
+    let ends = both-true (le leastScale s && le s greatestScale) r all .0 in
+    let w = whole parts p o s (at .reciprocal) P O (both-true (le leastScale s) (le s greatestScale) ends .0) (both-true (le leastScale s) (le s greatestScale) ends .1) (both-true (le leastScale s && le s greatestScale) r all .1) in
     (w .0, w .1, ap wholeParts (w .1))
 
 -- every vertex: its coordinates are the q that 01 names, of the exact t

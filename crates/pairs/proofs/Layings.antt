@@ -10,7 +10,8 @@ use Rattle.grid.proofs.First.{le-or-lt}
 use Rattle.order.proofs.Sums.{sum}
 use Rattle.listed.specs.declared.Listed.{Listed}
 use Rattle.listed.specs.Listed.{width, recordAt, ranged, Put}
-use Rattle.pairs.specs.Visits.{endAt, endsBefore, Laid}
+use Rattle.rows.specs.Rows.{endAt}
+use Rattle.pairs.specs.Laid.{endsBefore, Laid}
 
 -- sums of ends
 pub ends-more : (o : List ℕ) (p : ℕ) → endsBefore o (p + 1) ≡ endsBefore o p + endAt o p

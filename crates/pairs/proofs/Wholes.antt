@@ -31,7 +31,10 @@ use Rattle.listed.proofs.Records.{listed-path, record-same, records-over}
 use Rattle.list.specs.List.{isListed, flagOf, listed, recordsOf, plainRecords}
 use Rattle.list.proofs.Rows.{rows-length, row-read, none, none-joined, listed-few}
 use Rattle.tally.specs.Pairs.{joins, trianglesOf, triangleList, pairCount}
-use Rattle.pairs.specs.Visits.{endAt, Table, meets, allOf, Visited, Room, endsBefore, Laid}
+use Rattle.lookup.specs.Lookup.{Table}
+use Rattle.rows.specs.Rows.{endAt, meets, Visited, Room}
+use Rattle.visits.specs.Visits.{allOf}
+use Rattle.pairs.specs.Laid.{endsBefore, Laid}
 use Rattle.pairs.proofs.Layings.{sum-up}
 
 -- ---- lists

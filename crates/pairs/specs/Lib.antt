@@ -1,2 +1,2 @@
 pub mod Paired
-pub mod Visits
+pub mod Laid

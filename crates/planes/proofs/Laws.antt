@@ -25,7 +25,7 @@ use Rattle.planes.specs.declared.Splitting.the-variants as splitting
 use Rattle.planes.specs.declared.Side.the-variants.{First, Second}
 use Rattle.planes.specs.Planes.{outcomeOfPlanes, axisFault, outOfRange, planeCount, planeAt, planesOf, planesFault, allPlanesFault, planesAnswer, planesBuffer}
 use Rattle.planes.specs.Split.{outcomeOfSplit, exactSum, goesTo, splitCount, dFault, splitFault, allSplitFault, splitAnswer, splitBuffer}
-use Rattle.planes.proofs.Ranges.{planes-length, planes-at}
+use Rattle.axial.proofs.Ranges.{planes-length, planes-at}
 
 -- ---- which numbers the calls give
 

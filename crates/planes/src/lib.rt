@@ -7,7 +7,7 @@ ghost use lib.ListN.{length};
 ghost use Rattle.sizing.specs.Points.{bounded};
 ghost use Rattle.sizing.specs.Sizing.{points};
 ghost use Rattle.order.specs.Output.{Written};
-ghost use Rattle.planes.specs.Planes.{axisFault, outOfRange, rangeFault, firstPlane, pastPlane, planeAt, planesOf, planesFault, outcomeOfPlanes, planesAnswer, planesBuffer};
+ghost use Rattle.planes.specs.Planes.{outcomeOfPlanes, planesAnswer, planesBuffer};
 ghost use Rattle.planes.specs.Split.{dFault, goesTo, Bounded, pointOf, splitCount, splitTo, splitFault, roomsFault, outcomeOfSplit, splitAnswer, splitBuffer};
 ghost use Rattle.planes.specs.declared.Side.the-variants.{First, Second};
 use grid::Checked;
@@ -28,97 +28,6 @@ pub enum Planing {
     Refused(Refusal),
 }
 
-// Refusal 12 of an axis.
-fn axis_fault(axis: usize) -> Checked
-    ensures { λ f. ⌜ f ≡ axisFault axis ⌝ }
-{
-    if 2 < axis {
-        return grid::fault(12, 0);
-    }
-    Checked::Fine
-}
-
-fn out_of_range(low: usize, high: usize, best: usize, step: usize) -> bool
-    ensures { λ b. ⌜ b ≡ outOfRange low high best step ⌝ }
-{
-    let index = (256 <= low) | (256 <= high) | (256 <= best);
-    index | (high < low) | (256 < step)
-}
-
-// Refusal 12 of plane indices and a step.
-fn range_fault(low: usize, high: usize, best: usize, step: usize) -> Checked
-    ensures { λ f. ⌜ f ≡ rangeFault low high best step ⌝ }
-{
-    if out_of_range(low, high, best, step) {
-        return grid::fault(12, 0);
-    }
-    Checked::Fine
-}
-
-// max(low, best - step, 0).
-fn first_plane(low: usize, best: usize, step: usize) -> usize
-    ensures { λ n. ⌜ n ≡ firstPlane low best step ⌝ }
-{
-    if best <= step {
-        return low;
-    }
-    if low < best - step {
-        return best - step;
-    }
-    low
-}
-
-// One past min(high, best + step).
-fn past_plane(high: usize, best: usize, step: usize) -> usize
-    requires { ⌜ (high < 256) × (best < 256) × (step ≤ 256) ⌝ }
-    ensures { λ n. ⌜ n ≡ pastPlane high best step ⌝ }
-{
-    if best + step < high {
-        return best + step + 1;
-    }
-    high + 1
-}
-
-fn plane_at(origin: f32, scale: f32, i: usize) -> f32
-    requires { ⌜ i < 256 ⌝ }
-    ensures { λ d. ⌜ d ≡ planeAt origin scale i ⌝ }
-{
-    -mesh::off_centre(origin, scale, i, 0.5)
-}
-
-// The d of the planes from `first` on, as many as there are.
-fn write_planes(ds: &mut [f32], origin: f32, scale: f32, first: usize, count: usize)
-    requires { ⌜ (first + count ≤ 256) × (count ≤ length (now ds)) ⌝ }
-    ensures { λ _. ⌜ Written nan 0 (planesOf origin scale first count) (now (ds .entry)) (now (ds .exit)) ⌝ }
-{
-    let mut n = 0usize;
-    while n < count {
-        let d = plane_at(origin, scale, first + n);
-        ds[n] = d;
-        n += 1;
-    }
-}
-
-// Refusals 3, 5 and 12.
-fn planes_fault(
-    at: Placement,
-    axis: usize,
-    low: usize,
-    high: usize,
-    best: usize,
-    step: usize,
-) -> Checked
-    ensures { λ f. ⌜ f ≡ planesFault at axis low high best step ⌝ }
-{
-    let numbers = mesh::origin_fault(at);
-    let lent = mesh::lent_fault(at);
-    let of_axis = axis_fault(axis);
-    let of_range = range_fault(low, high, best, step);
-    let from_12 = grid::and_then(of_axis, of_range);
-    let from_5 = grid::and_then(lent, from_12);
-    grid::and_then(numbers, from_5)
-}
-
 // The planes about the plane `best` of an axis that lie within a step of it and from low to high: writes
 // the d of each, or refuses and writes nothing.
 pub fn planes_about(
@@ -133,16 +42,16 @@ pub fn planes_about(
     ensures { λ a. ⌜ outcomeOfPlanes a ≡ planesAnswer at axis low high best step (now (ds .entry)) ⌝ }
     ensures { λ _. ⌜ now (ds .exit) ≡ planesBuffer at axis low high best step (now (ds .entry)) ⌝ }
 {
-    match planes_fault(at, axis, low, high, best, step) {
+    match axial::planes_fault(at, axis, low, high, best, step) {
         Checked::Fault(f) => Planing::Refused(f),
         Checked::Fine => {
-            let first = first_plane(low, best, step);
-            let past = past_plane(high, best, step);
+            let first = axial::first_plane(low, best, step);
+            let past = axial::past_plane(high, best, step);
             let count = if first < past { past - first } else { 0 };
             match order::room_fault(ds.len(), count as u64) {
                 Checked::Fault(f) => Planing::Refused(f),
                 Checked::Fine => {
-                    write_planes(ds, mesh::origin_along(at, axis), at.scale, first, count);
+                    axial::write_planes(ds, mesh::origin_along(at, axis), at.scale, first, count);
                     Planing::Planned(Planes { first, count })
                 }
             }
@@ -242,10 +151,10 @@ fn write_side(out: &mut [f32], ps: &[f32], axis: usize, d: f32, side: Side)
 fn split_fault(ps: &[f32], axis: usize, d: f32) -> Checked
     ensures { λ f. ⌜ f ≡ splitFault (now (ps .entry)) axis d ⌝ }
 {
-    let lengths = sizing::length_fault(ps.len());
+    let lengths = points::length_fault(ps.len());
     let of_d = d_fault(d);
-    let numbers = sizing::numbers_fault(ps, 1);
-    let of_axis = axis_fault(axis);
+    let numbers = points::numbers_fault(ps, 1);
+    let of_axis = axial::axis_fault(axis);
     let from_points = grid::and_then(numbers, of_axis);
     let from_3 = grid::and_then(of_d, from_points);
     grid::and_then(lengths, from_3)

@@ -1,2 +1,4 @@
 pub mod Laws
 pub mod Readings
+pub mod Once
+pub mod Long

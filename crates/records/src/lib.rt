@@ -61,7 +61,7 @@ fn copy_text(text: &[u8], output: &mut [u8]) -> Writing
 }
 
 // Writes what the program says of an input: the six lines, or the line of a refusal.
-pub fn write_text(s: Summing, output: &mut [u8]) -> Writing
+fn write_text(s: Summing, output: &mut [u8]) -> Writing
     ensures { λ w. ⌜ outcome w ≡ textAnswer (summary.outcome s) (now (output .entry)) ⌝ }
     ensures { λ _. ⌜ now (output .exit) ≡ textBuffer (summary.outcome s) (now (output .entry)) ⌝ }
 {

@@ -14,8 +14,9 @@ use Rattle.listed.specs.Listed.{numbersOf}
 use Rattle.list.specs.List.{recordsFrom}
 use Rattle.samples.specs.Table.{All, table}
 use Rattle.samples.proofs.Filled.{marked-filled, box-flood, box-cavities, cube-flood, cube-cavities}
+use Rattle.samples.proofs.Printed.{three-printed}
 use Rattle.samples.proofs.Hatch.{hatch-opened, hatch-closed, centre-refused}
 
 pub samples : All table
 unfolding firstNot someBelow firstOnes bounded spansTo natural ceilOf truncOf nearestOf wholeParts partsAt onAxis isCandidate dotZ edge cross reach apart someApart touching hits row rows slabs keep chosen joinAll numbersOf recordsFrom lt le eq sub mul div ofInt
-samples = (refl, (refl, (refl, (refl, ((refl, refl), ((refl, refl), (refl, (refl, ((refl, refl), (marked-filled, ((refl, refl, refl), (box-flood, (box-cavities, (cube-flood, (cube-cavities, (hatch-opened, (hatch-closed, (centre-refused, tt))))))))))))))))))
+samples = (refl, (refl, (refl, (refl, ((refl, refl), ((refl, refl), (refl, (refl, ((refl, refl), (marked-filled, ((refl, refl, refl), (three-printed, (box-flood, (box-cavities, (cube-flood, (cube-cavities, (hatch-opened, (hatch-closed, (centre-refused, tt)))))))))))))))))))

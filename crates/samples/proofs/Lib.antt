@@ -1,3 +1,4 @@
 mod Filled
+mod Printed
 mod Hatch
 pub mod Claim

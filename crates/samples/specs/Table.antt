@@ -22,6 +22,9 @@ use Rattle.fill.specs.declared.Counts.{Counts}
 use Rattle.fill.specs.declared.Mode.{Mode}
 use Rattle.fill.specs.declared.Mode.the-variants.{Flood, Cavities}
 use Rattle.fill.specs.Modes.{fillFault, Fills}
+use Rattle.summary.specs.declared.Summary.{Summary}
+use Rattle.summary.specs.Summary.{Summarizes}
+use Rattle.records.specs.Records.{text}
 use Rattle.edits.specs.Edits.{Edit, opening, closing}
 use Rattle.edits.specs.History.{Call}
 
@@ -34,6 +37,7 @@ pub data Sample : Type 0 where
   filling : Axes → Mode → List ℕ → Counts → List ℕ → ℕ → ℕ → Sample
   editing : Axes → Edit → List ℕ → Outcome ℕ → List ℕ → Sample
   listing : List Float → List ℕ → Laid → List ℕ → ℕ → ℕ → List ℕ → List ℕ → Sample
+  printing : List ℕ → List ℕ → Sample
 
 abbrev pub Holds : Sample → Type 0
 Holds (by-size ps size o) = bySize ps size ≡ o
@@ -49,6 +53,8 @@ Holds (listing ps ts l labels cells pairs records list) =
     (pairsAnswer ps ts (l .axes) (l .placement) labels records list ≡ answers (record { cells = cells; pairs = pairs }))
     × (recordsOf (l .axes) labels (trianglesOf ps ts (l .axes) (l .placement) labels) ≡ records)
     × (triangleList ps ts (l .axes) (l .placement) labels ≡ list)
+-- what the program prints of an input
+Holds (printing input printed) = (o : Outcome Summary) × Summarizes input o × (text o ≡ printed)
 
 abbrev pub All : List Sample → Type 0
 All [] = Unit
@@ -95,6 +101,33 @@ twoTriangles = 2 ∷ 2 ∷ 2 ∷ 0 ∷ 0 ∷ 0 ∷ []
 abbrev pub twoRecords : List ℕ
 twoRecords = 0 ∷ 0 ∷ 0 ∷ 1 ∷ 0 ∷ 2 ∷ 1 ∷ 0 ∷ 0 ∷ 1 ∷ 2 ∷ 3 ∷ []
 
+-- the same as a program's input, in bytes: `Vh` with way 0, mode 1 and size 1; three `Vp`; two `Vt`; `Vz`. 0.5, 1 and 2 are the f32 0x3f000000, 0x3f800000 and 0x40000000
+abbrev pub zero4 : List ℕ
+zero4 = 0 ∷ 0 ∷ 0 ∷ 0 ∷ []
+
+abbrev pub two4 : List ℕ
+two4 = 0 ∷ 0 ∷ 0 ∷ 64 ∷ []
+
+abbrev pub recordsOfThree : List ℕ
+recordsOfThree =
+    (86 ∷ 104 ∷ 0 ∷ 1 ∷ 0 ∷ 0 ∷ 128 ∷ 63 ∷ [])
+    ++ (86 ∷ 112 ∷ [] ++ zero4 ++ zero4 ++ zero4)
+    ++ (86 ∷ 112 ∷ [] ++ two4 ++ two4 ++ two4)
+    ++ (86 ∷ 112 ∷ 0 ∷ 0 ∷ 0 ∷ 63 ∷ [] ++ zero4 ++ zero4)
+    ++ (86 ∷ 116 ∷ 2 ∷ 0 ∷ 0 ∷ 0 ∷ 2 ∷ 0 ∷ 0 ∷ 0 ∷ 2 ∷ 0 ∷ 0 ∷ 0 ∷ [])
+    ++ (86 ∷ 116 ∷ [] ++ zero4 ++ zero4 ++ zero4)
+    ++ (86 ∷ 122 ∷ [])
+
+-- `cells 3 3 3`, `outside 25`, `inside 0`, `surface 2`, `left 0`, `scans 2`, a line each, in ASCII
+abbrev pub printedOfThree : List ℕ
+printedOfThree =
+    (99 ∷ 101 ∷ 108 ∷ 108 ∷ 115 ∷ 32 ∷ 51 ∷ 32 ∷ 51 ∷ 32 ∷ 51 ∷ 10 ∷ [])
+    ++ (111 ∷ 117 ∷ 116 ∷ 115 ∷ 105 ∷ 100 ∷ 101 ∷ 32 ∷ 50 ∷ 53 ∷ 10 ∷ [])
+    ++ (105 ∷ 110 ∷ 115 ∷ 105 ∷ 100 ∷ 101 ∷ 32 ∷ 48 ∷ 10 ∷ [])
+    ++ (115 ∷ 117 ∷ 114 ∷ 102 ∷ 97 ∷ 99 ∷ 101 ∷ 32 ∷ 50 ∷ 10 ∷ [])
+    ++ (108 ∷ 101 ∷ 102 ∷ 116 ∷ 32 ∷ 48 ∷ 10 ∷ [])
+    ++ (115 ∷ 99 ∷ 97 ∷ 110 ∷ 115 ∷ 32 ∷ 50 ∷ 10 ∷ [])
+
 -- scans, and cells left
 abbrev pub counts : ℕ → ℕ → Counts
 counts scans left = record { scans = scans; left = left }
@@ -136,6 +169,7 @@ cell i j k = record { i = i; j = j; k = k }
 -- "Points (0,0,0), (2,2,2), (0.5,0,0); triangles (2,2,2), (0,0,0); size 1": of the list that 01 gives, the cells that are surface, (0,0,0) and (1,0,0), which have the numbers 0 and 1
 -- that map filled: `outside 25`, `inside 0`, `left 0`, `scans 2`
 -- and listed: "The list is whole: (0,0,0) surface 0..2; (1,0,0) surface 2..3; triangles 0, 1, 0."
+-- and printed: "Output whole, one line each: `cells 3 3 3`, `outside 25`, `inside 0`, `surface 2`, `left 0`, `scans 2`."
 -- "3 by 3 by 3, all but the centre marked: flood makes the centre 7 in 1 scan; cavities leave it 0, left 1, 2 scans."
 -- "5 by 5 by 5, the 26 cells about the centre marked: 98 Outside, 1 Inside, 2 scans; with cavities the same labels, 5 scans."
 -- "That map: open (1,2,2), 2 changed; close it, 2 changed and the map is back. Opening the centre: 13."
@@ -152,6 +186,7 @@ table =
     ∷ marking threePoints twoTriangles (lies (axes 3 3 3) (f 1) (f 1)) (replicate 27 7) (8 ∷ 8 ∷ replicate 25 0)
     ∷ filling (axes 3 3 3) Flood (8 ∷ 8 ∷ replicate 25 0) (counts 2 0) (8 ∷ 8 ∷ replicate 25 6) 25 0
     ∷ listing threePoints twoTriangles (lies (axes 3 3 3) (f 1) (f 1)) (8 ∷ 8 ∷ replicate 25 6) 2 3 twoRecords (0 ∷ 1 ∷ 0 ∷ [])
+    ∷ printing recordsOfThree printedOfThree
     ∷ filling (axes 3 3 3) Flood (box 8 0) (counts 1 0) (box 8 7) 0 1
     ∷ filling (axes 3 3 3) Cavities (box 8 0) (counts 2 1) (box 8 0) 0 0
     ∷ filling (axes 5 5 5) Flood (cube 0 8 0) (counts 2 0) (cube 6 8 7) 98 1

@@ -14,6 +14,7 @@ use list::Listing;
 use listed::Listed;
 use marking::Marking;
 use numbers::Whole;
+use records::Writing;
 
 // A line ends after every `layer` labels.
 fn end_layer(n: usize, layer: usize)
@@ -216,6 +217,103 @@ fn marked_about_the_centre(n: usize) -> u8 {
     if near & (n != 62) { 8 } else { 0 }
 }
 
+// Those points and triangles as an input of the program: a head, three points, two triangles and the
+// end.
+fn three_records() -> [u8; 80] {
+    [
+        86,
+        104,
+        0,
+        1,
+        0,
+        0,
+        128,
+        63,
+        86,
+        112,
+        0,
+        0,
+        0,
+        0,
+        0,
+        0,
+        0,
+        0,
+        0,
+        0,
+        0,
+        0,
+        86,
+        112,
+        0,
+        0,
+        0,
+        64,
+        0,
+        0,
+        0,
+        64,
+        0,
+        0,
+        0,
+        64,
+        86,
+        112,
+        0,
+        0,
+        0,
+        63,
+        0,
+        0,
+        0,
+        0,
+        0,
+        0,
+        0,
+        0,
+        86,
+        116,
+        2,
+        0,
+        0,
+        0,
+        2,
+        0,
+        0,
+        0,
+        2,
+        0,
+        0,
+        0,
+        86,
+        116,
+        0,
+        0,
+        0,
+        0,
+        0,
+        0,
+        0,
+        0,
+        0,
+        0,
+        0,
+        0,
+        86,
+        122,
+    ]
+}
+
+// What the program prints of it.
+fn printed() {
+    let input = three_records();
+    let mut output = [0u8; 256];
+    match records::run(&input, &mut output) {
+        Writing::Refused(f) => replay::checked(Checked::Fault(f)),
+        Writing::Wrote(n) => replay::text(&output[..n]),
+    }
+}
+
 // 5 by 5 by 5, the 26 cells about the centre marked.
 fn marks_about_the_centre() -> [u8; 125]
     ensures { λ l. ⌜ 125 ≡ length l ⌝ }
@@ -288,6 +386,7 @@ fn main() {
     replay::text(b"\n");
     marks();
     two_cells(Mode::Flood);
+    printed();
     three(Mode::Flood);
     three(Mode::Cavities);
     five(Mode::Cavities);

@@ -21,6 +21,7 @@ use Rattle.grid.specs.First.{firstNot}
 use Rattle.grid.specs.Grid.{Axis, Sound}
 use Rattle.grid.specs.Checks.{axesFault, badAxis}
 use Rattle.grid.proofs.Checks.{passed, both-fine, finds-if, finds-then, gives-unless, answered, axes-fine}
+use Rattle.grid.proofs.First.{both-true}
 use Rattle.sizing.specs.declared.Spans.{Spans}
 use Rattle.sizing.specs.declared.Sized.{Sized}
 use Rattle.sizing.specs.declared.Sized.the-variants.{Grid, Refused}
@@ -126,14 +127,6 @@ size-answer ps size l h =
 
 -- ---- the main axis has the greatest extent
 
-and-left : (a b : Bool) → (a && b) ≡ true → a ≡ true
-and-left true b h = refl
-and-left false b h = absurd (false≢true h)
-
-and-right : (a b : Bool) → (a && b) ≡ true → b ≡ true
-and-right true b h = h
-and-right false b h = absurd (false≢true h)
-
 not-and : (a b : Bool) → (a && b) ≡ false → a ≡ true → b ≡ false
 not-and true b h e = h
 not-and false b h e = absurd (false≢true e)
@@ -163,8 +156,8 @@ module _ (dx dy dz : Float) (p : T (finite dx)) (q : T (finite dy)) (r : T (fini
     where
       go : (t u : Bool) → tops dx dy dz ≡ t → tops dy dx dz ≡ u
           → (le dx (extentAt (cond t 0 (cond u 1 2)) dx dy dz) ≡ true) × (le dy (extentAt (cond t 0 (cond u 1 2)) dx dy dz) ≡ true) × (le dz (extentAt (cond t 0 (cond u 1 2)) dx dy dz) ≡ true)
-      go true u h k = (le-self dx p, and-left (le dy dx) (le dz dx) h, and-right (le dy dx) (le dz dx) h)
-      go false true h k = (and-left (le dx dy) (le dz dy) k, le-self dy q, and-right (le dx dy) (le dz dy) k)
+      go true u h k = (le-self dx p, both-true (le dy dx) (le dz dx) h .0, both-true (le dy dx) (le dz dx) h .1)
+      go false true h k = (both-true (le dx dy) (le dz dy) k .0, le-self dy q, both-true (le dx dy) (le dz dy) k .1)
       go false false h k = (third dx dy dz p q r h k, third dy dx dz q p r k h, le-self dz r)
 
 -- what holds of each extent holds of the main axis's
@@ -215,8 +208,8 @@ size-counts ps size f g =
     let s = spansOf ps in
     let d = extents ps f in
     let b = not-false (le leastSize size && le size greatestSize) (passed (not (le leastSize size && le size greatestSize)) 5 0 Fine g .0) in
-    let lo = and-left (le leastSize size) (le size greatestSize) b in
-    let hi = and-right (le leastSize size) (le size greatestSize) b in
+    let lo = both-true (le leastSize size) (le size greatestSize) b .0 in
+    let hi = both-true (le leastSize size) (le size greatestSize) b .1 in
     (whole-quotient (extent (s .x)) size (d .0) lo hi, whole-quotient (extent (s .y)) size (d .1) lo hi, whole-quotient (extent (s .z)) size (d .2) lo hi)
 
 two-more-sound : (r n : ℕ) (w : Whole) → r ≤ 254 → w ≡ Of (pos n) → n ≤ r → Axis (2 + natural w)

@@ -1,10 +1,7 @@
-// Axes and placement of a grid over points, by cell size and by resolution, and the refusals of lent
-// points.
+// Axes and placement of a grid over points, by cell size and by resolution.
 ghost use mathlib.Core.Path.{_≡_};
 ghost use Prim.Native.Nat.{_+_, _*_, _≤_, _<_};
 ghost use lib.ListN.{length};
-ghost use Rattle.grid.specs.First.{firstNot, every};
-ghost use Rattle.sizing.specs.Points.{bounded, lengthFault, noneFault, numbersFault, pointsFault};
 ghost use Rattle.sizing.specs.Sizing.{outcome, lower, upper, pointAt, spansAt, spanWith, spansWith, spansOf, placedAt, sizeFault, Counted, axisBySize, gridOf, sizeGrid, bySize, resolutionFault, tops, mainAxis, extentAt, countOf, axisByResolution, resolutionGrid, byResolution};
 use grid::Axes;
 use grid::Checked;
@@ -37,82 +34,7 @@ pub struct Spans {
     pub z: Span,
 }
 
-// ---- lent points
-
-// At most 2 ^ 20 in magnitude; a NaN is not.
-fn in_bounds(x: f32) -> bool
-    ensures { λ r. ⌜ r ≡ bounded 20 x ⌝ }
-{
-    (-1048576.0 <= x) & (x <= 1048576.0)
-}
-
-// The loop has no way out, so that it runs at the speed of a plain pass over the memory.
-fn all_in_bounds(ps: &[f32]) -> bool
-    ensures { λ r. ⌜ r ≡ every (bounded 20) (now (ps .entry)) ⌝ }
-{
-    let mut all = true;
-    let mut i = 0usize;
-    while i < ps.len() {
-        all = all & in_bounds(ps[i]);
-        i += 1;
-    }
-    all
-}
-
-// The place of the first number that is out of bounds, or the length.
-fn first_out(ps: &[f32]) -> usize
-    ensures { λ r. ⌜ r ≡ firstNot (bounded 20) (now (ps .entry)) ⌝ }
-{
-    let mut i = 0usize;
-    while i < ps.len() {
-        if in_bounds(ps[i]) {
-            i += 1;
-        } else {
-            return i;
-        }
-    }
-    i
-}
-
-// Refusal 3 of points whose numbers are counted after `before` others.
-pub fn numbers_fault(ps: &[f32], before: u8) -> Checked
-    ensures { λ r. ⌜ r ≡ numbersFault before (now (ps .entry)) ⌝ }
-{
-    if all_in_bounds(ps) {
-        return Checked::Fine;
-    }
-    grid::fault(3, before as usize + first_out(ps))
-}
-
-// Refusal 1 of the length of a list of points or triangles.
-pub fn length_fault(n: usize) -> Checked
-    ensures { λ r. ⌜ r ≡ lengthFault n ⌝ }
-{
-    if (n % 3 != 0) | (65536 < n / 3) {
-        return grid::fault(1, 0);
-    }
-    Checked::Fine
-}
-
-// Refusal 2 of the length of a list of points.
-pub fn none_fault(n: usize) -> Checked
-    ensures { λ r. ⌜ r ≡ noneFault n ⌝ }
-{
-    if n == 0 {
-        return grid::fault(2, 0);
-    }
-    Checked::Fine
-}
-
-// Refusals 1, 2 and 3 of a list of points.
-fn points_fault(ps: &[f32]) -> Checked
-    ensures { λ r. ⌜ r ≡ pointsFault (now (ps .entry)) ⌝ }
-{
-    let lengths = length_fault(ps.len());
-    let none = none_fault(ps.len());
-    let numbers = numbers_fault(ps, 0);
-    grid::and_then(lengths, grid::and_then(none, numbers))
-}
+// ---- the spans of the points
 
 fn least(a: f32, b: f32) -> f32
     ensures { λ r. ⌜ r ≡ lower a b ⌝ }
@@ -253,7 +175,7 @@ fn size_grid(s: Spans, size: f32) -> Sized
 pub fn by_size(points: &[f32], size: f32) -> Sized
     ensures { λ r. ⌜ outcome r ≡ bySize (now (points .entry)) size ⌝ }
 {
-    match grid::and_then(points_fault(points), size_fault(size)) {
+    match grid::and_then(points::points_fault(points), size_fault(size)) {
         Checked::Fault(f) => Sized::Refused(f),
         Checked::Fine => size_grid(spans_of(points), size),
     }
@@ -347,7 +269,7 @@ fn resolution_grid(s: Spans, r: u32) -> Sized
 pub fn by_resolution(points: &[f32], r: u32) -> Sized
     ensures { λ e. ⌜ outcome e ≡ byResolution (now (points .entry)) r ⌝ }
 {
-    match grid::and_then(points_fault(points), resolution_fault(r)) {
+    match grid::and_then(points::points_fault(points), resolution_fault(r)) {
         Checked::Fault(f) => Sized::Refused(f),
         Checked::Fine => resolution_grid(spans_of(points), r),
     }

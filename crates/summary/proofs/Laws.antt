@@ -12,7 +12,6 @@ use Rattle.grid.specs.declared.Axes.{Axes}
 use Rattle.grid.specs.declared.Checked.{Checked}
 use Rattle.grid.specs.declared.Checked.the-variants.{Fine}
 use Rattle.grid.specs.declared.Placement.{Placement}
-use Rattle.grid.specs.declared.Refusal.{Refusal}
 use Rattle.grid.specs.Answers.{Outcome, answers, refuses, _andThen_, unless, lentAfter, Ends}
 use Rattle.grid.specs.Checks.{takes}
 use Rattle.grid.specs.Grid.{Sound, cells, cellNumbered}

@@ -41,9 +41,9 @@ pub enum Summing {
 fn stream_fault(ps: &[f32], ts: &[u32]) -> Checked
     ensures { λ f. ⌜ f ≡ streamFault (now (ps .entry)) (now (ts .entry)) ⌝ }
 {
-    let none = sizing::none_fault(ps.len());
-    let numbers = sizing::numbers_fault(ps, 0);
-    let missing = mesh::missing_fault(ts, ps.len() / 3);
+    let none = points::none_fault(ps.len());
+    let numbers = points::numbers_fault(ps, 0);
+    let missing = lent::missing_fault(ts, ps.len() / 3);
     grid::and_then(none, grid::and_then(numbers, missing))
 }
 

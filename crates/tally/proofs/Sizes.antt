@@ -14,13 +14,12 @@ use Rattle.grid.specs.declared.Axes.{Axes}
 use Rattle.grid.specs.declared.Cell.{Cell}
 use Rattle.grid.specs.declared.Placement.{Placement}
 use Rattle.grid.specs.Grid.{Sound, InGrid, at}
-use Rattle.grid.proofs.First.{le-or-lt}
+use Rattle.grid.proofs.First.{le-or-lt, both-true}
 use Rattle.grid.proofs.Cells.{cells-max}
 use Rattle.touch.specs.declared.Slabs.{Slabs}
 use Rattle.touch.specs.Slabs.{keptAll}
 use Rattle.mesh.specs.declared.Ends.{Ends}
 use Rattle.mesh.specs.Ranges.{between, holds}
-use Rattle.mesh.proofs.Laws.{both-l}
 use Rattle.marking.specs.Painted.{leftIn, one, rowOf}
 use Rattle.marking.proofs.Paint.{upto, Walk, walk-starts, walk-on, more-i, holds-here, holds-is}
 use Rattle.order.specs.Order.{inOrder, keep, chosen, joinAll}
@@ -271,7 +270,7 @@ module _ (ps : List Float) (ts : List ℕ) (r : Axes) (p : Placement) (l : List 
 
   -- a cell 8 is listed
   surface-listed : (t : ℕ) (c : Cell) → joins ps ts r p l t c ≡ true → isListed (at r l c) ≡ true
-  surface-listed t c h = ap isListed (eqb-true (at r l c) 8 (both-l (eqb (at r l c) 8) _ h))
+  surface-listed t c h = ap isListed (eqb-true (at r l c) 8 (both-true (eqb (at r l c) 8) _ h .0))
 
   -- t triangles have n pairs
   pub record Paired (t n : ℕ) : Type 0 where

@@ -12,6 +12,7 @@ use mir.Syntax.{w64}
 use mir.Facts.{toZ-ofZ}
 use mir.Val.{SFits, toZ, ofZ}
 use Rattle.grid.specs.declared.Cell.{Cell}
+use Rattle.grid.proofs.First.{both-true}
 use Rattle.numbers.specs.Rounding.{parts, half}
 use Rattle.ints.specs.Bound.{In, Val, Each, got, in-add, in-sub, in-mul, in-abs, in-lit, in-up, in-eq, in3, cons3}
 use Rattle.ints.specs.Casts.{of-unsigned}
@@ -293,22 +294,14 @@ kept-row s c f h =
     let e = keptThree (s .edge01) i j k in
     let g = keptThree (s .edge12) i j k in
     let l = keptThree (s .edge20) i j k in
-    let h1 = left (axes && normal && e && g) l h in
-    let h2 = left (axes && normal && e) g h1 in
-    let h3 = left (axes && normal) e h2 in
-    let all = left axes normal h3 in
-    let xy = left (kept (s .axes .x) i j k && kept (s .axes .y) i j k) (kept (s .axes .z) i j k) all in
-    let x = flat-kept (s .axes .x) i j k (f .axes-axial .x-z) (left (kept (s .axes .x) i j k) (kept (s .axes .y) i j k) xy) in
-    let y = flat-kept (s .axes .y) i j k (f .axes-axial .y-z) (right (kept (s .axes .x) i j k) (kept (s .axes .y) i j k) xy) in
-    let a = flat-kept (s .edge01 .z) i j k (f .edge01-flat .z-z) (right (kept (s .edge01 .x) i j k && kept (s .edge01 .y) i j k) (kept (s .edge01 .z) i j k) (right (axes && normal) e h2)) in
-    let b = flat-kept (s .edge12 .z) i j k (f .edge12-flat .z-z) (right (kept (s .edge12 .x) i j k && kept (s .edge12 .y) i j k) (kept (s .edge12 .z) i j k) (right (axes && normal && e) g h1)) in
-    let d = flat-kept (s .edge20 .z) i j k (f .edge20-flat .z-z) (right (kept (s .edge20 .x) i j k && kept (s .edge20 .y) i j k) (kept (s .edge20 .z) i j k) (right (axes && normal && e && g) l h)) in
+    let h1 = both-true (axes && normal && e && g) l h .0 in
+    let h2 = both-true (axes && normal && e) g h1 .0 in
+    let h3 = both-true (axes && normal) e h2 .0 in
+    let all = both-true axes normal h3 .0 in
+    let xy = both-true (kept (s .axes .x) i j k && kept (s .axes .y) i j k) (kept (s .axes .z) i j k) all .0 in
+    let x = flat-kept (s .axes .x) i j k (f .axes-axial .x-z) (both-true (kept (s .axes .x) i j k) (kept (s .axes .y) i j k) xy .0) in
+    let y = flat-kept (s .axes .y) i j k (f .axes-axial .y-z) (both-true (kept (s .axes .x) i j k) (kept (s .axes .y) i j k) xy .1) in
+    let a = flat-kept (s .edge01 .z) i j k (f .edge01-flat .z-z) (both-true (kept (s .edge01 .x) i j k && kept (s .edge01 .y) i j k) (kept (s .edge01 .z) i j k) (both-true (axes && normal) e h2 .1) .1) in
+    let b = flat-kept (s .edge12 .z) i j k (f .edge12-flat .z-z) (both-true (kept (s .edge12 .x) i j k && kept (s .edge12 .y) i j k) (kept (s .edge12 .z) i j k) (both-true (axes && normal && e) g h1 .1) .1) in
+    let d = flat-kept (s .edge20 .z) i j k (f .edge20-flat .z-z) (both-true (kept (s .edge20 .x) i j k && kept (s .edge20 .y) i j k) (kept (s .edge20 .z) i j k) (both-true (axes && normal && e && g) l h .1) .1) in
     rw (x, y, a, b, d)
-  where
-    left : (x y : Bool) → (x && y) ≡ true → x ≡ true
-    left true y h = refl
-    left false y h = h
-
-    right : (x y : Bool) → (x && y) ≡ true → y ≡ true
-    right true y h = h
-    right false y h = absurd (let z : _≡_ {A = ℕ} 0 1 = cc in omega arith)

@@ -1,5 +1,5 @@
-// The program: standard input to records to standard output, and nothing else in it. A complete input has at
-// most 7,178 bytes and a longer one is refused within them, so the buffer holds all that is asked of any.
+// The program: standard input to records to standard output, and nothing else in it. What is said of an input
+// turns on its first 7,190 bytes (reader/proofs/Long.antt), and the buffer has room for more.
 use libc::STDIN_FILENO;
 use libc::STDOUT_FILENO;
 use records::Writing;

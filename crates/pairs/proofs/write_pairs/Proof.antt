@@ -7,7 +7,8 @@ use Prim.Native.Nat.{ℕ}
 use native.Mathlib.Omega.{arith}
 use lib.ListN.{length}
 use Rattle.mesh.specs.Mesh.{triangles}
-use Rattle.pairs.specs.Visits.{allOf, Visited}
+use Rattle.rows.specs.Rows.{Visited}
+use Rattle.visits.specs.Visits.{allOf}
 use Rattle.pairs.proofs.Wholes.{plain-shown, shown-table, count-room, ends-all, laid-shown, place-room, records-whole, triangles-whole}
 use mathlib.Core.Bool.{true}
 

@@ -17,7 +17,7 @@ use Rattle.order.proofs.Lent.{refused-answer, refused-lent, fine-answer, fine-l
 use Rattle.order.proofs.Outputs.{written-over, then-first, then-next, room-fine}
 use Rattle.planes.specs.declared.Planes.{Planes}
 use Rattle.planes.specs.Planes.{firstPlane, planeCount, planesOf, planesFault}
-use Rattle.planes.proofs.Ranges.{InRange, planes-fine, planes-in, planes-length}
+use Rattle.axial.proofs.Ranges.{InRange, planes-fine, planes-in, planes-length}
 use Rattle.planes.proofs.planes_about.Statement.{statement}
 use Rattle.planes.proofs.planes_about.Tie as tie
 

@@ -1,10 +1,9 @@
 -- `reader::head_from` meets its contract. Assumes nothing.
 use borrow.Author.Needs.{needs}
 use native.Mathlib.Omega.{arith}
-use mathlib.Core.Path.{_≡_, sym, ap, _∙_}
-use Prim.Native.Nat.{ℕ, _≤_}
+use mathlib.Core.Path.{sym, ap, _∙_}
+use Prim.Native.Nat.{_≤_}
 use lib.ListN.{length, getD}
-use Rattle.reader.specs.declared.Bytes.{Bytes}
 use Rattle.reader.specs.Records.{headOf, headBy}
 use Rattle.reader.proofs.Laws.{there}
 use Rattle.reader.proofs.head_from.Statement.{statement}
@@ -12,7 +11,9 @@ use Rattle.reader.proofs.head_from.Tie as tie
 
 -- the head's bytes are there
 held : (c : tie.After-enum-told) → 8 ≤ length (c .before .before .before .before .args .input .now)
-held c = let w = c .before .before in omega (arith, there (w .before .before .args .input .now) 0 8 (sym (c .enum-told .given .1) ∙ w .bytes-at .ensures))
+held c =
+    let w = c .before .before in
+    omega (arith, there (w .before .before .args .input .now) 0 8 (sym (c .enum-told .given .1) ∙ w .bytes-at .ensures))
 
 bytes-at-requires : tie.Need-bytes-at-requires
 bytes-at-requires c κs = search needs
@@ -27,7 +28,9 @@ no-start-requires : tie.Need-no-start-requires
 no-start-requires c κs = search needs
 
 returns : tie.Need-returns
-returns c = let w = c .before .before .before in c .no-start .ensures ∙ (λ t. headBy ((sym (c .before .enum-told2 .given .1) ∙ w .bytes-at .ensures) t) (w .before .before .args .input .now))
+returns c =
+    let w = c .before .before .before in
+    c .no-start .ensures ∙ (λ t. headBy ((sym (c .before .enum-told2 .given .1) ∙ w .bytes-at .ensures) t) (w .before .before .args .input .now))
 
 shared-slice-read-head-of : tie.Need-shared-slice-read-head-of
 shared-slice-read-head-of c = omega (arith, held (c .before))
@@ -42,7 +45,11 @@ head-of-requires : tie.Need-head-of-requires
 head-of-requires c κs = search needs
 
 returns-2 : tie.Need-returns-2
-returns-2 c = let e = c .before .before .before .before in let w = e .before .before in let s = w .before .before .args .input .now in c .head-of .ensures ∙ ap (headOf (getD s 2 0) (getD s 3 0)) (c .before .word .ensures) ∙ (λ t. headBy ((sym (e .enum-told .given .1) ∙ w .bytes-at .ensures) t) s)
+returns-2 c =
+    let e = c .before .before .before .before in
+    let w = e .before .before in
+    let s = w .before .before .args .input .now in
+    c .head-of .ensures ∙ ap (headOf (getD s 2 0) (getD s 3 0)) (c .before .word .ensures) ∙ (λ t. headBy ((sym (e .enum-told .given .1) ∙ w .bytes-at .ensures) t) s)
 
 pub head-from-spec : {M : Type 1} → statement M
 head-from-spec =

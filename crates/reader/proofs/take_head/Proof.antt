@@ -1,7 +1,7 @@
 -- `reader::take_head` meets its contract: the mark, and then by its kind. Assumes nothing.
 use borrow.Author.Needs.{needs}
 use native.Mathlib.Omega.{arith}
-use mathlib.Core.Path.{_≡_, sym, ap, _∙_}
+use mathlib.Core.Path.{sym, ap, _∙_}
 use Rattle.reader.specs.declared.Mark.the-variants.{Of}
 use Rattle.reader.specs.declared.Kind.{Kind}
 use Rattle.reader.specs.Records.{startBy, startWith}
@@ -22,10 +22,15 @@ no-start-requires : tie.Need-no-start-requires
 no-start-requires c κs = search needs
 
 returns : tie.Need-returns
-returns c = let w = c .before .before .before in c .no-start .ensures ∙ (λ t. startWith ((sym (c .before .enum-told2 .given .1) ∙ w .bytes-at .ensures) t) (w .before .before .args .input .now))
+returns c =
+    let w = c .before .before .before in
+    c .no-start .ensures ∙ (λ t. startWith ((sym (c .before .enum-told2 .given .1) ∙ w .bytes-at .ensures) t) (w .before .before .args .input .now))
 
 mark-at-requires : tie.Need-mark-at-requires
-mark-at-requires c κs = let w = c .before .before in let s = w .before .before .args .input .now in omega (arith, there s 0 2 (sym (c .enum-told .given .1) ∙ w .bytes-at .ensures))
+mark-at-requires c κs =
+    let w = c .before .before in
+    let s = w .before .before .args .input .now in
+    omega (arith, there s 0 2 (sym (c .enum-told .given .1) ∙ w .bytes-at .ensures))
 
 enum-known-kind : tie.Need-enum-known-kind
 enum-known-kind c = search needs
@@ -37,7 +42,11 @@ no-start-requires-2 : tie.Need-no-start-requires-2
 no-start-requires-2 c κs = search needs
 
 returns-2 : tie.Need-returns-2
-returns-2 c = let w = c .before .before .before in let b = w .before .before .before in c .no-start2 .ensures ∙ started (b .before .before .args .input .now) _ (sym (w .before .enum-told .given .1) ∙ b .bytes-at .ensures) (sym (c .before .enum-told3 .given .1) ∙ w .mark-at .ensures)
+returns-2 c =
+    let w = c .before .before .before in
+    let b = w .before .before .before in
+    c .no-start2 .ensures
+    ∙ started (b .before .before .args .input .now) _ (sym (w .before .enum-told .given .1) ∙ b .bytes-at .ensures) (sym (c .before .enum-told3 .given .1) ∙ w .mark-at .ensures)
 
 enum-told-4 : tie.Need-enum-told-4
 enum-told-4 c = search needs
@@ -64,16 +73,44 @@ no-start-requires-5 : tie.Need-no-start-requires-5
 no-start-requires-5 c κs = search needs
 
 returns-3 : tie.Need-returns-3
-returns-3 c = let k = c .before .before .before .before in let w = k .before .before in let b = w .before .before .before in let s = b .before .before .args .input .now in c .head-from .ensures ∙ ap (λ (x : Kind). startBy (Of x) s) (sym (c .before .enum-told4 .given .1)) ∙ started s _ (sym (w .before .enum-told .given .1) ∙ b .bytes-at .ensures) (sym (k .kind .given .1) ∙ w .mark-at .ensures)
+returns-3 c =
+    let k = c .before .before .before .before in
+    let w = k .before .before in
+    let b = w .before .before .before in
+    let s = b .before .before .args .input .now in
+    c .head-from .ensures
+    ∙ ap (λ (x : Kind). startBy (Of x) s) (sym (c .before .enum-told4 .given .1))
+    ∙ started s _ (sym (w .before .enum-told .given .1) ∙ b .bytes-at .ensures) (sym (k .kind .given .1) ∙ w .mark-at .ensures)
 
 returns-4 : tie.Need-returns-4
-returns-4 c = let k = c .before .before .before .before in let w = k .before .before in let b = w .before .before .before in let s = b .before .before .args .input .now in c .no-start3 .ensures ∙ ap (λ (x : Kind). startBy (Of x) s) (sym (c .before .enum-told5 .given .1)) ∙ started s _ (sym (w .before .enum-told .given .1) ∙ b .bytes-at .ensures) (sym (k .kind .given .1) ∙ w .mark-at .ensures)
+returns-4 c =
+    let k = c .before .before .before .before in
+    let w = k .before .before in
+    let b = w .before .before .before in
+    let s = b .before .before .args .input .now in
+    c .no-start3 .ensures
+    ∙ ap (λ (x : Kind). startBy (Of x) s) (sym (c .before .enum-told5 .given .1))
+    ∙ started s _ (sym (w .before .enum-told .given .1) ∙ b .bytes-at .ensures) (sym (k .kind .given .1) ∙ w .mark-at .ensures)
 
 returns-5 : tie.Need-returns-5
-returns-5 c = let k = c .before .before .before .before in let w = k .before .before in let b = w .before .before .before in let s = b .before .before .args .input .now in c .no-start4 .ensures ∙ ap (λ (x : Kind). startBy (Of x) s) (sym (c .before .enum-told6 .given .1)) ∙ started s _ (sym (w .before .enum-told .given .1) ∙ b .bytes-at .ensures) (sym (k .kind .given .1) ∙ w .mark-at .ensures)
+returns-5 c =
+    let k = c .before .before .before .before in
+    let w = k .before .before in
+    let b = w .before .before .before in
+    let s = b .before .before .args .input .now in
+    c .no-start4 .ensures
+    ∙ ap (λ (x : Kind). startBy (Of x) s) (sym (c .before .enum-told6 .given .1))
+    ∙ started s _ (sym (w .before .enum-told .given .1) ∙ b .bytes-at .ensures) (sym (k .kind .given .1) ∙ w .mark-at .ensures)
 
 returns-6 : tie.Need-returns-6
-returns-6 c = let k = c .before .before .before .before in let w = k .before .before in let b = w .before .before .before in let s = b .before .before .args .input .now in c .no-start5 .ensures ∙ ap (λ (x : Kind). startBy (Of x) s) (sym (c .before .enum-told7 .given .1)) ∙ started s _ (sym (w .before .enum-told .given .1) ∙ b .bytes-at .ensures) (sym (k .kind .given .1) ∙ w .mark-at .ensures)
+returns-6 c =
+    let k = c .before .before .before .before in
+    let w = k .before .before in
+    let b = w .before .before .before in
+    let s = b .before .before .args .input .now in
+    c .no-start5 .ensures
+    ∙ ap (λ (x : Kind). startBy (Of x) s) (sym (c .before .enum-told7 .given .1))
+    ∙ started s _ (sym (w .before .enum-told .given .1) ∙ b .bytes-at .ensures) (sym (k .kind .given .1) ∙ w .mark-at .ensures)
 
 pub take-head-spec : {M : Type 1} → statement M
 take-head-spec =

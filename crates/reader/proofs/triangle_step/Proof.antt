@@ -2,7 +2,7 @@
 use borrow.Author.Needs.{needs}
 use borrow.Author.Tests.{le-leb, lt-leb}
 use native.Mathlib.Omega.{arith}
-use mathlib.Core.Path.{_≡_, sym, ap, _∙_}
+use mathlib.Core.Path.{sym, ap, _∙_}
 use Rattle.reader.specs.declared.Corners.{Corners}
 use Rattle.reader.specs.declared.Record.the-variants.{Triangle}
 use Rattle.reader.specs.declared.Step.the-variants.{Took}
@@ -30,16 +30,25 @@ no-record-requires-2 : tie.Need-no-record-requires-2
 no-record-requires-2 c κs = search needs
 
 returns-2 : tie.Need-returns-2
-returns-2 c = let w = c .before .before .before in c .no-record2 .ensures ∙ is-cut _ _ _ (sym (c .before .enum-told2 .given .1) ∙ w .bytes-at .ensures) ∙ other _ _ _ (lt-leb 256 _ (w .before .if1 .left))
+returns-2 c =
+    let w = c .before .before .before in
+    c .no-record2 .ensures ∙ is-cut _ _ _ (sym (c .before .enum-told2 .given .1) ∙ w .bytes-at .ensures) ∙ other _ _ _ (lt-leb 256 _ (w .before .if1 .left))
 
 add-corners-from : tie.Need-add-corners-from
 add-corners-from c = search needs
 
 corners-from-requires : tie.Need-corners-from-requires
-corners-from-requires c κs = let w = c .before .before in let a = w .before .before .before .before in omega (arith, a .pre, there (a .args .input .now) (a .args .at) 14 (sym (c .enum-told .given .1) ∙ w .bytes-at .ensures))
+corners-from-requires c κs =
+    let w = c .before .before in
+    let a = w .before .before .before .before in
+    omega (arith, a .pre, there (a .args .input .now) (a .args .at) 14 (sym (c .enum-told .given .1) ∙ w .bytes-at .ensures))
 
 returns-3 : tie.Need-returns-3
-returns-3 c = let w = c .before .before .before in ap (λ (x : Corners). Took (Triangle x)) (c .corners-from .ensures) ∙ not-cut _ _ _ (sym (c .before .enum-told .given .1) ∙ w .bytes-at .ensures) ∙ other _ _ _ (lt-leb 256 _ (w .before .if1 .left))
+returns-3 c =
+    let w = c .before .before .before in
+    ap (λ (x : Corners). Took (Triangle x)) (c .corners-from .ensures)
+    ∙ not-cut _ _ _ (sym (c .before .enum-told .given .1) ∙ w .bytes-at .ensures)
+    ∙ other _ _ _ (lt-leb 256 _ (w .before .if1 .left))
 
 pub triangle-step-spec : {M : Type 1} → statement M
 triangle-step-spec =

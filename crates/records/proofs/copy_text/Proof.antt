@@ -2,9 +2,7 @@
 use borrow.Author.Needs.{needs}
 use native.Mathlib.Omega.{arith}
 use mathlib.Core.Path.{_≡_, sym, ap, _∙_}
-use Prim.Native.Nat.{ℕ}
 use lib.ListN.{length}
-use Rattle.grid.specs.declared.Checked.the-variants.{Fine}
 use Rattle.grid.specs.Answers.{answers}
 use Rattle.order.specs.Output.{roomFault, over}
 use Rattle.order.proofs.Outputs.{room-fine}
@@ -23,7 +21,9 @@ enum-told : tie.Need-enum-told
 enum-told c = search needs
 
 put-bytes-requires : tie.Need-put-bytes-requires
-put-bytes-requires c κs = let a = c .before .before .before .before .before .before .args in omega (arith, room-fine (length (a .output .now)) (length (a .text .now)) (sym (c .before .before .before .room-fault .ensures) ∙ c .before .enum-told .given .1))
+put-bytes-requires c κs =
+    let a = c .before .before .before .before .before .before .args in
+    omega (arith, room-fine (length (a .output .now)) (length (a .text .now)) (sym (c .before .before .before .room-fault .ensures) ∙ c .before .enum-told .given .1))
 
 returns : tie.Need-returns
 returns c = let e = sym (c .before .f .given .1) ∙ c .before .before .before .room-fault .ensures in (refused-answer _ _ _ e, refused-lent _ _ _ _ e)
@@ -32,7 +32,11 @@ same-length : tie.Need-same-length
 same-length c = search needs
 
 returns-2 : tie.Need-returns-2
-returns-2 c = let a = c .before .before .before .before .before .before .before .before .before .args in let e = sym (c .before .before .before .before .before .before .room-fault .ensures) ∙ c .before .before .before .before .enum-told .given .1 in let p = c .before .before .put-bytes .ensures in (ap answers (let z : _ ≡ length (a .text .now) = omega (arith, p .ends) in z) ∙ fine-answer (roomFault (length (a .output .now)) (length (a .text .now))) (answers (length (a .text .now))) e, over-text (a .text .now) (a .output .now) _ _ (room-fine (length (a .output .now)) (length (a .text .now)) e) p ∙ fine-lent (roomFault (length (a .output .now)) (length (a .text .now))) (a .output .now) (over (a .text .now) (a .output .now)) e)
+returns-2 c =
+    let a = c .before .before .before .before .before .before .before .before .before .args in
+    let e = sym (c .before .before .before .before .before .before .room-fault .ensures) ∙ c .before .before .before .before .enum-told .given .1 in
+    let p = c .before .before .put-bytes .ensures in
+    (ap answers (let z : _ ≡ length (a .text .now) = omega (arith, p .ends) in z) ∙ fine-answer (roomFault (length (a .output .now)) (length (a .text .now))) (answers (length (a .text .now))) e, over-text (a .text .now) (a .output .now) _ _ (room-fine (length (a .output .now)) (length (a .text .now)) e) p ∙ fine-lent (roomFault (length (a .output .now)) (length (a .text .now))) (a .output .now) (over (a .text .now) (a .output .now)) e)
 
 pub copy-text-spec : {M : Type 1} → statement M
 copy-text-spec =

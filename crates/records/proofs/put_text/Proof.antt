@@ -1,6 +1,6 @@
 -- `records::put_text` meets its contract: by what was answered. Assumes nothing.
 use borrow.Author.Needs.{needs}
-use mathlib.Core.Path.{_≡_, sym, ap}
+use mathlib.Core.Path.{sym, ap}
 use Rattle.summary.specs.declared.Summing.{Summing}
 use Rattle.summary.specs.Summary as summary
 use Rattle.text.proofs.Laws.{put-as}
@@ -33,13 +33,15 @@ same-length : tie.Need-same-length
 same-length c = search needs
 
 returns : tie.Need-returns
-returns c = put-as 0 _ _ _ _ _ (ap (λ (s : Summing). text (summary.outcome s)) (sym (c .before .before .before .before .before .s .given .1))) (c .before .before .put-summary .ensures)
+returns c =
+    put-as 0 _ _ _ _ _ (ap (λ (s : Summing). text (summary.outcome s)) (sym (c .before .before .before .before .before .s .given .1))) (c .before .before .put-summary .ensures)
 
 same-length-2 : tie.Need-same-length-2
 same-length-2 c = search needs
 
 returns-2 : tie.Need-returns-2
-returns-2 c = put-as 0 _ _ _ _ _ (ap (λ (s : Summing). text (summary.outcome s)) (sym (c .before .before .before .before .before .before .before .before .s2 .given .1))) (c .before .before .put-line .ensures)
+returns-2 c =
+    put-as 0 _ _ _ _ _ (ap (λ (s : Summing). text (summary.outcome s)) (sym (c .before .before .before .before .before .before .before .before .s2 .given .1))) (c .before .before .put-line .ensures)
 
 pub put-text-spec : {M : Type 1} → statement M
 put-text-spec =

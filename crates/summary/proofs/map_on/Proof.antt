@@ -2,7 +2,7 @@
 use borrow.Author.Needs.{needs}
 use native.Mathlib.Omega.{arith}
 use mathlib.Core.List.{List}
-use mathlib.Core.Path.{_≡_, sym, ap, subst, _∙_}
+use mathlib.Core.Path.{_≡_, sym, subst}
 use Prim.Native.Nat.{ℕ, _≤_}
 use borrow.Author.Tests.{lt-ltb, le-ltb}
 use Rattle.grid.specs.declared.Checked.the-variants.{Fine}
@@ -31,7 +31,9 @@ mul-n-2 : tie.Need-mul-n-2
 mul-n-2 c = let a = c .before .before .before .before in let m = cells-max (a .args .r) (a .pre .0) in record { fits = omega (arith, m) }
 
 returns : tie.Need-returns
-returns c = let a = c .before .before .before .before .before in Mapped.many (sym (fault-here _ 8 0 Fine (lt-ltb 32768 (cells (a .args .r)) (c .if1 .taken))))
+returns c =
+    let a = c .before .before .before .before .before in
+    Mapped.many (sym (fault-here _ 8 0 Fine (lt-ltb 32768 (cells (a .args .r)) (c .if1 .taken))))
 
 array-borrow-prefix-labels : tie.Need-array-borrow-prefix-labels
 array-borrow-prefix-labels c = search needs
@@ -40,10 +42,15 @@ slice-aggregate-mark-and-tally : tie.Need-slice-aggregate-mark-and-tally
 slice-aggregate-mark-and-tally c = part (cells (c .before .before .before .before .before .before .args .r)) (c .before .if1 .left)
 
 mark-and-tally-requires : tie.Need-mark-and-tally-requires
-mark-and-tally-requires c κs = let a = c .before .before .before .before .before .before in let q = a .args in subst (λ (n : ℕ). meshFault (q .ps .now) (q .ts .now) (q .r) (q .at) n ≡ Fine) (part (cells (q .r)) (c .before .if1 .left)) (a .pre .1)
+mark-and-tally-requires c κs =
+    let a = c .before .before .before .before .before .before in
+    let q = a .args in
+    subst (λ (n : ℕ). meshFault (q .ps .now) (q .ts .now) (q .r) (q .at) n ≡ Fine) (part (cells (q .r)) (c .before .if1 .left)) (a .pre .1)
 
 returns-2 : tie.Need-returns-2
-returns-2 c = let a = c .before .before .before .before .before .before .before .before in Mapped.few (sym (fault-not _ 8 0 Fine (le-ltb 32768 (cells (a .args .r)) (c .before .before .before .if1 .left)))) (c .before .mark-and-tally .ensures)
+returns-2 c =
+    let a = c .before .before .before .before .before .before .before .before in
+    Mapped.few (sym (fault-not _ 8 0 Fine (le-ltb 32768 (cells (a .args .r)) (c .before .before .before .if1 .left)))) (c .before .mark-and-tally .ensures)
 
 pub map-on-spec : {M : Type 1} → statement M
 map-on-spec =

@@ -1,6 +1,6 @@
 -- `summary::sized_by` meets its contract: by the way. Assumes nothing.
 use borrow.Author.Needs.{needs}
-use mathlib.Core.Path.{_≡_, sym, ap, _∙_}
+use mathlib.Core.Path.{sym, ap, _∙_}
 use Rattle.reader.specs.declared.Way.{Way}
 use Rattle.summary.specs.Summary.{sizedBy}
 use Rattle.summary.proofs.sized_by.Statement.{statement}
@@ -19,10 +19,14 @@ by-resolution-requires : tie.Need-by-resolution-requires
 by-resolution-requires c κs = search needs
 
 returns : tie.Need-returns
-returns c = let a = c .before .before .before .before .before .args in c .by-size .ensures ∙ ap (λ (w : Way). sizedBy w (a .ps .now)) (sym (c .before .before .way .given .1))
+returns c =
+    let a = c .before .before .before .before .before .args in
+    c .by-size .ensures ∙ ap (λ (w : Way). sizedBy w (a .ps .now)) (sym (c .before .before .way .given .1))
 
 returns-2 : tie.Need-returns-2
-returns-2 c = let a = c .before .before .before .before .before .args in c .by-resolution .ensures ∙ ap (λ (w : Way). sizedBy w (a .ps .now)) (sym (c .before .before .way2 .given .1))
+returns-2 c =
+    let a = c .before .before .before .before .before .args in
+    c .by-resolution .ensures ∙ ap (λ (w : Way). sizedBy w (a .ps .now)) (sym (c .before .before .way2 .given .1))
 
 pub sized-by-spec : {M : Type 1} → statement M
 sized-by-spec =

@@ -21,7 +21,10 @@ and-then-requires-2 : tie.Need-and-then-requires-2
 and-then-requires-2 c κs = search needs
 
 returns : tie.Need-returns
-returns c = let m = c .before .before in let rest = c .before .and-then .ensures ∙ (λ t. m .before .numbers-fault .ensures t andThen m .missing-fault .ensures t) in c .and-then2 .ensures ∙ (λ t. m .before .before .none-fault .ensures t andThen rest t)
+returns c =
+    let m = c .before .before in
+    let rest = c .before .and-then .ensures ∙ (λ t. m .before .numbers-fault .ensures t andThen m .missing-fault .ensures t) in
+    c .and-then2 .ensures ∙ (λ t. m .before .before .none-fault .ensures t andThen rest t)
 
 pub stream-fault-spec : {M : Type 1} → statement M
 stream-fault-spec =

@@ -1,10 +1,8 @@
 -- `summary::summarize` meets its contract: the reading, and then the map. Assumes nothing.
 use borrow.Author.Needs.{needs}
 use native.Mathlib.Omega.{arith}
-use mathlib.Core.List.{List}
-use mathlib.Core.Path.{_≡_, sym, ap, subst, _∙_}
+use mathlib.Core.Path.{_≡_, sym, subst}
 use Prim.Native.Nat.{ℕ, _≤_}
-use lib.Ieee.{Float}
 use Rattle.grid.specs.declared.Checked.the-variants.{Fine}
 use Rattle.sizing.specs.Points.{lengthFault}
 use Rattle.reader.specs.declared.Reading.{Reading}
@@ -40,25 +38,35 @@ mul-t : tie.Need-mul-t
 mul-t c = omega (arith, few (c .before .before) .1)
 
 array-share-prefix-points : tie.Need-array-share-prefix-points
-array-share-prefix-points c = omega (arith, few (c .before .before) .0, c .before .before .before .before .before .before .before .read .ensures .1 .1)
+array-share-prefix-points c =
+    omega (arith, few (c .before .before) .0, c .before .before .before .before .before .before .before .read .ensures .1 .1)
 
 slice-aggregate-map-of : tie.Need-slice-aggregate-map-of
-slice-aggregate-map-of c = sym (three-each _ _ (few (c .before .before .before) .0) (c .before .before .before .before .before .before .before .before .read .ensures .1 .1))
+slice-aggregate-map-of c =
+    sym (three-each _ _ (few (c .before .before .before) .0) (c .before .before .before .before .before .before .before .before .read .ensures .1 .1))
 
 array-share-prefix-triangles : tie.Need-array-share-prefix-triangles
-array-share-prefix-triangles c = omega (arith, few (c .before .before .before) .1, c .before .before .before .before .before .before .before .before .read .ensures .1 .2)
+array-share-prefix-triangles c =
+    omega (arith, few (c .before .before .before) .1, c .before .before .before .before .before .before .before .before .read .ensures .1 .2)
 
 slice-aggregate-map-of-2 : tie.Need-slice-aggregate-map-of-2
-slice-aggregate-map-of-2 c = sym (three-each _ _ (few (c .before .before .before .before) .1) (c .before .before .before .before .before .before .before .before .before .read .ensures .1 .2))
+slice-aggregate-map-of-2 c =
+    sym (three-each _ _ (few (c .before .before .before .before) .1) (c .before .before .before .before .before .before .before .before .before .read .ensures .1 .2))
 
 map-of-requires : tie.Need-map-of-requires
-map-of-requires c κs = let w = few (c .before .before .before .before) .1 in subst (λ (n : ℕ). lengthFault n ≡ Fine) (sym (three-each _ _ w (c .before .before .before .before .before .before .before .before .before .read .ensures .1 .2))) (threes-fine _ w)
+map-of-requires c κs =
+    let w = few (c .before .before .before .before) .1 in
+    subst (λ (n : ℕ). lengthFault n ≡ Fine) (sym (three-each _ _ w (c .before .before .before .before .before .before .before .before .before .read .ensures .1 .2))) (threes-fine _ w)
 
 returns : tie.Need-returns
-returns c = let r = c .before .before .before .before .before .read in Summarizes.faulty (subst (λ (x : Reading). reading.Read (c .before .before .before .before .before .before .before .before .before .args .input .now) (reading.outcome x (r .last .1 .0) (r .last .1 .1 .0))) (c .before .f .given .1) (r .ensures .0))
+returns c =
+    let r = c .before .before .before .before .before .read in
+    Summarizes.faulty (subst (λ (x : Reading). reading.Read (c .before .before .before .before .before .before .before .before .before .args .input .now) (reading.outcome x (r .last .1 .0) (r .last .1 .1 .0))) (c .before .f .given .1) (r .ensures .0))
 
 returns-2 : tie.Need-returns-2
-returns-2 c = let r = c .before .before .before .before .before .before .before .before .before .before .read in Summarizes.complete (subst (λ (x : Reading). reading.Read (c .before .before .before .before .before .before .before .before .before .before .before .before .before .before .args .input .now) (reading.outcome x (r .last .1 .0) (r .last .1 .1 .0))) (c .before .before .before .before .before .before .head .given .1) (r .ensures .0)) (c .map-of .ensures)
+returns-2 c =
+    let r = c .before .before .before .before .before .before .before .before .before .before .read in
+    Summarizes.complete (subst (λ (x : Reading). reading.Read (c .before .before .before .before .before .before .before .before .before .before .before .before .before .before .args .input .now) (reading.outcome x (r .last .1 .0) (r .last .1 .1 .0))) (c .before .before .before .before .before .before .head .given .1) (r .ensures .0)) (c .map-of .ensures)
 
 pub summarize-spec : {M : Type 1} → statement M
 summarize-spec =

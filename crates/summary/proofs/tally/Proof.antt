@@ -1,12 +1,11 @@
 -- `summary::tally` meets its contract: the fill, and then the counts. Assumes nothing.
 use borrow.Author.Needs.{needs}
-use mathlib.Core.Path.{_≡_, sym, ap, subst}
+use mathlib.Core.Path.{_≡_, subst}
 use mathlib.Core.List.{List}
 use Prim.Native.Nat.{ℕ}
 use Rattle.grid.specs.declared.Axes.{Axes}
 use Rattle.grid.specs.declared.Checked.the-variants.{Fine}
-use Rattle.grid.specs.Answers.{Outcome, answers, Ends}
-use Rattle.fill.specs.declared.Counts.{Counts}
+use Rattle.grid.specs.Answers.{answers, Ends}
 use Rattle.fill.specs.declared.Filling.{Filling}
 use Rattle.fill.specs.declared.Mode.{Mode}
 use Rattle.fill.specs.Modes as modes
@@ -40,13 +39,20 @@ same-length : tie.Need-same-length
 same-length c = search needs
 
 returns : tie.Need-returns
-returns c = let k = c .before .before .before .before .before in let a = c .before .before .before .before .before .before .before .before in absurd (filled (a .args .mode) (a .args .r) (a .args .labels .now) _ _ _ (a .pre) (k .fill .ensures .0) (c .before .f .given .1))
+returns c =
+    let k = c .before .before .before .before .before in
+    let a = c .before .before .before .before .before .before .before .before in
+    absurd (filled (a .args .mode) (a .args .r) (a .args .labels .now) _ _ _ (a .pre) (k .fill .ensures .0) (c .before .f .given .1))
 
 same-length-2 : tie.Need-same-length-2
 same-length-2 c = search needs
 
 returns-2 : tie.Need-returns-2
-returns-2 c = let k = c .before .before .before .before .before .before .before .before .before .before .before in let a = c .before .before .before .before .before .before .before .before .before .before .before .before .before .before in let n = c .before .before .before .before .before .before .before .n .given .0 .0 in record { labels = _; counts = n; filled = filled (a .args .mode) (a .args .r) (a .args .labels .now) _ _ _ (a .pre) (k .fill .ensures .0) (c .before .before .before .before .before .before .before .n .given .1); is = λ i. answers (record { axes = a .args .r; outside = c .before .before .before .before .count-label .ensures i; inside = c .before .before .count-label2 .ensures i; surface = c .count-label3 .ensures i; left = n .left; scans = n .scans }) }
+returns-2 c =
+    let k = c .before .before .before .before .before .before .before .before .before .before .before in
+    let a = c .before .before .before .before .before .before .before .before .before .before .before .before .before .before in
+    let n = c .before .before .before .before .before .before .before .n .given .0 .0 in
+    record { labels = _; counts = n; filled = filled (a .args .mode) (a .args .r) (a .args .labels .now) _ _ _ (a .pre) (k .fill .ensures .0) (c .before .before .before .before .before .before .before .n .given .1); is = λ i. answers (record { axes = a .args .r; outside = c .before .before .before .before .count-label .ensures i; inside = c .before .before .count-label2 .ensures i; surface = c .count-label3 .ensures i; left = n .left; scans = n .scans }) }
 
 pub tally-spec : {M : Type 1} → statement M
 tally-spec =

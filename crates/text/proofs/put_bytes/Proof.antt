@@ -33,7 +33,7 @@ loop-less : tie.Need-loop-less Inv-loop μ-loop
 loop-less c = omega (arith, c .before .loop-test .taken)
 
 loop-again : tie.Need-loop-again Inv-loop μ-loop
-loop-again c = one-more _ _ _ _ _ (c .before .before .loop .inv) (c .before .before .before .pre) (c .before .loop-test .taken) _ refl
+loop-again c = one-more _ _ _ _ _ (c .before .before .loop .inv) (c .before .before .before .pre) (omega (arith, c .before .loop-test .taken)) _ refl
 
 add-result : tie.Need-add-result Inv-loop μ-loop
 add-result c = omega (arith, c .before .loop .inv .few, c .before .before .pre)

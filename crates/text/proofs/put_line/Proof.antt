@@ -32,10 +32,14 @@ add-result : tie.Need-add-result
 add-result c = omega (arith, room c)
 
 same-length : tie.Need-same-length
-same-length c = length-set (c .before .before .put-numbers .last .0) (c .before .before .put-numbers .result) 10 ∙ c .before .before .put-numbers .ensures .written .size ∙ c .before .before .before .before .before .before .put-bytes .ensures .written .size
+same-length c =
+    simp length-set (c .before .before .put-numbers .ensures .written .size ∙ c .before .before .before .before .before .before .put-bytes .ensures .written .size)
 
 returns : tie.Need-returns
-returns c = let a = c .before .before .before .before .before .before .before .before .before .before .before .args in let n = c .before .before .put-numbers in put-then (a .at) (n .result) _ (a .word .now ++ joinAll spaced (a .numbers .now)) (10 ∷ []) _ _ _ (put-then (a .at) _ (n .result) (a .word .now) (joinAll spaced (a .numbers .now)) _ _ _ (c .before .before .before .before .before .before .put-bytes .ensures) (n .ensures)) (put-one (n .result) 10 (n .last .0) (room c))
+returns c =
+    let a = c .before .before .before .before .before .before .before .before .before .before .before .args in
+    let n = c .before .before .put-numbers in
+    put-then (a .at) (n .result) _ (a .word .now ++ joinAll spaced (a .numbers .now)) (10 ∷ []) _ _ _ (put-then (a .at) _ (n .result) (a .word .now) (joinAll spaced (a .numbers .now)) _ _ _ (c .before .before .before .before .before .before .put-bytes .ensures) (n .ensures)) (put-one (n .result) 10 (n .last .0) (room c))
 
 pub put-line-spec : {M : Type 1} → statement M
 put-line-spec =

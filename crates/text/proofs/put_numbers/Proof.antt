@@ -1,7 +1,5 @@
 -- `text::put_numbers` meets its contract: one number after the other. Assumes nothing.
-use borrow.Author.Needs.{needs}
 use native.Mathlib.Omega.{arith}
-use mathlib.Core.Path.{_≡_, _∙_}
 use Prim.Native.Nat.{_-_}
 use lib.ListN.{length}
 use Rattle.text.proofs.Laws.{NumbersTo, none-put, ends-most, one-number, numbers-put}
@@ -18,13 +16,15 @@ loop-holds : tie.Need-loop-holds Inv-loop μ-loop
 loop-holds c = let a = c .before .before .args in none-put (a .at) (a .numbers .now) (a .out .now)
 
 mul-put-number : tie.Need-mul-put-number Inv-loop μ-loop
-mul-put-number c = omega (arith, c .before .loop-test .taken, c .before .before .before .before .before .pre, c .before .before .before .before .before .good)
+mul-put-number c =
+    omega (arith, c .before .loop-test .taken, c .before .before .before .before .before .pre, c .before .before .before .before .before .good)
 
 shared-slice-read-put-number : tie.Need-shared-slice-read-put-number Inv-loop μ-loop
 shared-slice-read-put-number c = omega (arith, c .before .before .loop-test .taken)
 
 put-number-requires : tie.Need-put-number-requires Inv-loop μ-loop
-put-number-requires c κs = ends-most _ _ _ _ _ _ (c .before .before .before .loop .inv) (c .before .before .loop-test .taken) (c .before .before .before .before .before .before .pre)
+put-number-requires c κs =
+    ends-most _ _ _ _ _ _ (c .before .before .before .loop .inv) (c .before .before .loop-test .taken) (c .before .before .before .before .before .before .pre)
 
 add-i : tie.Need-add-i Inv-loop μ-loop
 add-i c = omega (arith, c .before .before .before .before .before .loop-test .taken)
@@ -33,7 +33,8 @@ loop-less : tie.Need-loop-less Inv-loop μ-loop
 loop-less c = omega (arith, c .before .before .before .before .before .loop-test .taken)
 
 loop-again : tie.Need-loop-again Inv-loop μ-loop
-loop-again c = one-number _ _ _ _ _ _ (c .before .before .before .before .before .before .loop .inv) _ _ (c .before .before .before .before .before .loop-test .taken) (c .before .before .put-number .ensures)
+loop-again c =
+    one-number _ _ _ _ _ _ (c .before .before .before .before .before .before .loop .inv) _ _ (c .before .before .before .before .before .loop-test .taken) (c .before .before .put-number .ensures)
 
 same-length : tie.Need-same-length Inv-loop μ-loop
 same-length c = c .before .loop .inv .front .written .size

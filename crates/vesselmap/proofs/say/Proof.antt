@@ -6,13 +6,13 @@ use Prim.Native.Nat.{_≤_}
 use lib.Seq.{length-take-le}
 use Rattle.records.specs.declared.Writing.{Writing}
 use Rattle.records.specs.Records.{outcome, Runs}
-use Rattle.vesselmap.proofs.Laws.{runs-fit}
+use Rattle.records.proofs.Laws.{run-fits}
 use Rattle.vesselmap.proofs.say.Statement.{statement}
 use Rattle.vesselmap.proofs.say.Tie as tie
 
 -- what was written lies in the output
 fits : (c : tie.After-k) → c .k .given .0 .0 ≤ 256
-fits c = runs-fit _ _ _ _ (subst (λ (w : Writing). Runs (c .before .before .before .before .before .before .args .input .now) _ (outcome w) (c .before .before .before .run .last .1 .0)) (c .k .given .1) (c .before .before .before .run .ensures))
+fits c = run-fits _ _ _ _ (subst (λ (w : Writing). Runs (c .before .before .before .before .before .before .args .input .now) _ (outcome w) (c .before .before .before .run .last .1 .0)) (c .k .given .1) (c .before .before .before .run .ensures))
 
 slice-aggregate-run : tie.Need-slice-aggregate-run
 slice-aggregate-run c = search needs

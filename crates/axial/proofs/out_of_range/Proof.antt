@@ -1,0 +1,10 @@
+-- `axial::out_of_range` meets its contract: the code's test is the definition's. Assumes nothing.
+use mathlib.Core.Path.{refl}
+use Rattle.axial.proofs.out_of_range.Statement.{statement}
+use Rattle.axial.proofs.out_of_range.Tie as tie
+
+returns : tie.Need-returns
+returns c = refl
+
+pub out-of-range-spec : {M : Type 1} → statement M
+out-of-range-spec = tie.close (tie.spec returns)

@@ -1,0 +1,36 @@
+-- `capi::vm_close_cell` meets its contract: what the edit tells, flat. Assumes nothing.
+use mathlib.Core.Path.{ap}
+use Rattle.edits.specs.Edits.{closing}
+use Rattle.capi.proofs.Laws.{edit-tells}
+use borrow.Author.Needs.{needs}
+use Rattle.capi.proofs.vm_close_cell.Statement.{statement}
+use Rattle.capi.proofs.vm_close_cell.Tie as tie
+
+axes-of-requires : tie.Need-axes-of-requires
+axes-of-requires c κs = search needs
+
+cell-of-requires : tie.Need-cell-of-requires
+cell-of-requires c κs = search needs
+
+close-cell-requires : tie.Need-close-cell-requires
+close-cell-requires c κs = search needs
+
+of-editing-requires : tie.Need-of-editing-requires
+of-editing-requires c κs = search needs
+
+same-length : tie.Need-same-length
+same-length c = search needs
+
+returns : tie.Need-returns
+returns c = let d = c .before .before .before .close-cell in edit-tells _ _ _ _ (c .before .before .before .before .before .before .before .before .args .labels .now) _ _ _ (c .before .before .before .before .before .axes-of .ensures) (ap closing (c .before .before .before .before .cell-of .ensures)) (c .of-editing .ensures) (d .ensures .0) (d .ensures .1)
+
+pub vm-close-cell-spec : {M : Type 1} → statement M
+vm-close-cell-spec =
+    tie.close
+    (tie.spec
+    axes-of-requires
+    cell-of-requires
+    close-cell-requires
+    of-editing-requires
+    same-length
+    returns)

@@ -1,0 +1,136 @@
+// The refusals of lent points, triangles, grid and placement.
+ghost use mathlib.Core.Path.{_≡_};
+ghost use Prim.Native.Nat.{_/_};
+ghost use lib.Dec.{ltb};
+ghost use Rattle.grid.specs.Answers.{faultIf};
+ghost use Rattle.grid.specs.declared.Checked.the-variants.{Fine};
+ghost use Rattle.grid.specs.First.{firstNot};
+ghost use Rattle.grid.specs.Grid.{Sound};
+ghost use Rattle.mesh.specs.Mesh.{vertexOf, onGrid};
+ghost use Rattle.mesh.specs.Faults.{originFault, names, missingFault, lentFault, offFault, lengthsFault, lentNumbersFault, inputFault, meshFault};
+ghost use Rattle.mesh.specs.Ranges.{Named};
+use grid::Axes;
+use grid::Checked;
+use grid::Placement;
+
+// Refusal 3 of a lent origin, whose numbers come first.
+pub fn origin_fault(at: Placement) -> Checked
+    ensures { λ f. ⌜ f ≡ originFault at ⌝ }
+{
+    let origin = [at.x, at.y, at.z];
+    points::numbers_fault(&origin, 0)
+}
+
+// The fault of corner k of a list of this length, if it is within it: the place is its triangle.
+fn corner_fault(number: u8, k: usize, len: usize) -> Checked
+    ensures { λ f. ⌜ f ≡ faultIf (ltb k len) number (k / 3) Fine ⌝ }
+{
+    if k < len {
+        return grid::fault(number, k / 3);
+    }
+    Checked::Fine
+}
+
+// The place of the first of some numbers that names none of n things, or the length.
+pub fn first_missing(ts: &[u32], n: usize) -> usize
+    ensures { λ k. ⌜ k ≡ firstNot (names n) (now (ts .entry)) ⌝ }
+{
+    let mut k = 0usize;
+    while k < ts.len() {
+        if (ts[k] as usize) < n {
+            k += 1;
+        } else {
+            return k;
+        }
+    }
+    k
+}
+
+// Refusal 4 of triangles that name one of n points.
+pub fn missing_fault(ts: &[u32], n: usize) -> Checked
+    ensures { λ f. ⌜ f ≡ missingFault n (now (ts .entry)) ⌝ }
+{
+    corner_fault(4, first_missing(ts, n), ts.len())
+}
+
+// Refusal 5 of a lent scale and its reciprocal.
+pub fn lent_fault(at: Placement) -> Checked
+    ensures { λ f. ⌜ f ≡ lentFault at ⌝ }
+{
+    let scale = at.scale;
+    let reciprocal = at.reciprocal;
+    if (0.000003814697265625 <= scale) & (scale <= 2097152.0) & (reciprocal == 1.0 / scale) {
+        return Checked::Fine;
+    }
+    grid::fault(5, 0)
+}
+
+// Refusals 1 and 2.
+fn lengths_fault(ps: &[f32], ts: &[u32]) -> Checked
+    ensures { λ f. ⌜ f ≡ lengthsFault (now (ps .entry)) (now (ts .entry)) ⌝ }
+{
+    let of_points = points::length_fault(ps.len());
+    let of_triangles = points::length_fault(ts.len());
+    let none = points::none_fault(ps.len());
+    grid::and_then(of_points, grid::and_then(of_triangles, none))
+}
+
+// Refusal 3, the origin first.
+fn lent_numbers_fault(ps: &[f32], at: Placement) -> Checked
+    ensures { λ f. ⌜ f ≡ lentNumbersFault (now (ps .entry)) at ⌝ }
+{
+    let of_origin = origin_fault(at);
+    let of_points = points::numbers_fault(ps, 3);
+    grid::and_then(of_origin, of_points)
+}
+
+// Refusals 1 to 5, 8 and 9 of a mesh on a grid with a label buffer of this length.
+fn input_fault(ps: &[f32], ts: &[u32], r: Axes, at: Placement, len: usize) -> Checked
+    ensures { λ f. ⌜ f ≡ inputFault (now (ps .entry)) (now (ts .entry)) r at len ⌝ }
+{
+    let lengths = lengths_fault(ps, ts);
+    let numbers = lent_numbers_fault(ps, at);
+    let missing = missing_fault(ts, ps.len() / 3);
+    let lent = lent_fault(at);
+    let labels = grid::grid_fault(r, len);
+    let from_5 = grid::and_then(lent, labels);
+    let from_4 = grid::and_then(missing, from_5);
+    let from_3 = grid::and_then(numbers, from_4);
+    grid::and_then(lengths, from_3)
+}
+
+// The place of the first corner that falls on no cell, or the length.
+fn first_off(ps: &[f32], ts: &[u32], r: Axes, at: Placement) -> usize
+    requires { ⌜ Named (now ps) (now ts) ⌝ }
+    requires { ⌜ Sound r ⌝ }
+    ensures { λ k. ⌜ k ≡ firstNot (λ v. onGrid r (vertexOf (now (ps .entry)) at v)) (now (ts .entry)) ⌝ }
+{
+    let mut k = 0usize;
+    while k < ts.len() {
+        if mesh::on_grid(mesh::vertex_of(ps, at, ts[k] as usize), r) {
+            k += 1;
+        } else {
+            return k;
+        }
+    }
+    k
+}
+
+// Refusal 10.
+fn off_fault(ps: &[f32], ts: &[u32], r: Axes, at: Placement) -> Checked
+    requires { ⌜ Named (now ps) (now ts) ⌝ }
+    requires { ⌜ Sound r ⌝ }
+    ensures { λ f. ⌜ f ≡ offFault (now (ps .entry)) (now (ts .entry)) r at ⌝ }
+{
+    corner_fault(10, first_off(ps, ts, r, at), ts.len())
+}
+
+// Refusals 1 to 5, 8, 9 and 10 of a mesh on a grid with a label buffer of this length.
+pub fn mesh_fault(ps: &[f32], ts: &[u32], r: Axes, at: Placement, len: usize) -> Checked
+    ensures { λ f. ⌜ f ≡ meshFault (now (ps .entry)) (now (ts .entry)) r at len ⌝ }
+{
+    match input_fault(ps, ts, r, at, len) {
+        Checked::Fault(f) => Checked::Fault(f),
+        Checked::Fine => off_fault(ps, ts, r, at),
+    }
+}

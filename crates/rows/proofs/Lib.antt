@@ -1,0 +1,2 @@
+pub mod Visiting
+pub mod Rowing

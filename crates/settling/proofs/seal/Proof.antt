@@ -1,0 +1,29 @@
+-- `settling::seal` meets its contract: a walk, and a turn. Assumes nothing.
+use mathlib.Core.Path.{refl, _∙_}
+use native.Mathlib.Omega.{arith}
+use Rattle.settling.specs.Closing.{way-out, cut-off}
+use Rattle.settling.proofs.Settlings.{first-ready, second-start}
+use Rattle.settling.proofs.seal.Statement.{statement}
+use Rattle.settling.proofs.seal.Tie as tie
+
+walk-requires : tie.Need-walk-requires
+walk-requires c κs = first-ready _ _ _ _ (c .before .before .pre .0) (c .before .before .pre .1 .0 .0) (c .before .before .pre .1 .0 .1) (c .before .before .pre .1 .1)
+
+same-length : tie.Need-same-length
+same-length c = c .before .before .before .walk .kept .0
+
+returns : tie.Need-returns
+returns c = way-out _ (c .before .before .before .walk .ensures) (c .if1 .taken) refl refl
+
+turn-requires : tie.Need-turn-requires
+turn-requires c κs = let s = second-start _ _ _ _ (c .before .before .before .before .before .before .before .pre .0) (c .before .before .before .before .before .before .before .pre .1 .0 .0) _ _ (c .before .before .before .before .walk .ensures) in (s .0, ((c .before .before .before .before .before .before .before .pre .1 .0 .0, s .1), (c .before .before .before .before .before .before .before .pre .1 .1, omega arith, omega arith)))
+
+same-length-2 : tie.Need-same-length-2
+same-length-2 c = c .before .before .turn .kept .0 ∙ c .before .before .before .before .before .before .before .walk .kept .0
+
+returns-2 : tie.Need-returns-2
+returns-2 c = cut-off _ _ (c .before .before .before .before .before .before .before .walk .ensures) (c .before .before .before .before .if1 .left) (c .before .before .turn .ensures) refl refl
+
+pub seal-spec : {M : Type 1} → statement M
+seal-spec =
+    tie.close (tie.spec walk-requires same-length returns turn-requires same-length-2 returns-2)

@@ -1,0 +1,64 @@
+-- `slabs::slabs_of` meets its contract. Assumes nothing.
+use lib.Dec.{lit<}
+use Rattle.touch.proofs.Laws.{axis-dir}
+use Rattle.slabs.proofs.slabs_of.Statement.{statement}
+use Rattle.slabs.proofs.slabs_of.Tie as tie
+
+three-along-requires : tie.Need-three-along-requires
+three-along-requires c κs = ((axis-dir 1 0 0 tt tt tt, axis-dir 0 1 0 tt tt tt, axis-dir 0 0 1 tt tt tt), c .pre)
+
+normal-slab-requires : tie.Need-normal-slab-requires
+normal-slab-requires c κs = c .before .pre
+
+array-copy-out-products : tie.Need-array-copy-out-products
+array-copy-out-products c = lit< tt
+
+array-copy-out-products-2 : tie.Need-array-copy-out-products-2
+array-copy-out-products-2 c = lit< tt
+
+products-requires : tie.Need-products-requires
+products-requires c κs = ((c .before .before .before .before .pre .at 0, c .before .before .before .before .pre .at 1), c .before .before .before .before .pre)
+
+array-copy-out-products-3 : tie.Need-array-copy-out-products-3
+array-copy-out-products-3 c = lit< tt
+
+array-copy-out-products-4 : tie.Need-array-copy-out-products-4
+array-copy-out-products-4 c = lit< tt
+
+products-requires-2 : tie.Need-products-requires-2
+products-requires-2 c κs = ((c .before .before .before .before .before .before .before .pre .at 1, c .before .before .before .before .before .before .before .pre .at 2), c .before .before .before .before .before .before .before .pre)
+
+array-copy-out-products-5 : tie.Need-array-copy-out-products-5
+array-copy-out-products-5 c = lit< tt
+
+array-copy-out-products-6 : tie.Need-array-copy-out-products-6
+array-copy-out-products-6 c = lit< tt
+
+products-requires-3 : tie.Need-products-requires-3
+products-requires-3 c κs = ((c .before .before .before .before .before .before .before .before .before .before .pre .at 2, c .before .before .before .before .before .before .before .before .before .before .pre .at 0), c .before .before .before .before .before .before .before .before .before .before .pre)
+
+returns : tie.Need-returns
+returns c =
+    let axes = c .before .before .before .before .before .before .before .before .before .before .three-along .ensures in
+    let normal = c .before .before .before .before .before .before .before .before .before .normal-slab .ensures in
+    let edge01 = c .before .before .before .before .before .before .products .ensures in
+    let edge12 = c .before .before .before .products2 .ensures in
+    let edge20 = c .products3 .ensures in
+    λ t. record { axes = axes t; normal = normal t; edge01 = edge01 t; edge12 = edge12 t; edge20 = edge20 t }
+
+pub slabs-of-spec : {M : Type 1} → statement M
+slabs-of-spec =
+    tie.close
+    (tie.spec
+    three-along-requires
+    normal-slab-requires
+    array-copy-out-products
+    array-copy-out-products-2
+    products-requires
+    array-copy-out-products-3
+    array-copy-out-products-4
+    products-requires-2
+    array-copy-out-products-5
+    array-copy-out-products-6
+    products-requires-3
+    returns)

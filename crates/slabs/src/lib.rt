@@ -1,0 +1,139 @@
+// The thirteen slabs of a triangle, one for each direction, and with them whether a triangle touches a cell.
+ghost use mathlib.Core.Path.{_≡_};
+ghost use Prim.Native.Nat.{_^_};
+ghost use lib.IntN.{pos, natAbs};
+ghost use Rattle.ints.specs.Bound.{In};
+ghost use Rattle.touch.specs.Touch.{dotZ, reach, edge, cross, normal, touching};
+ghost use Rattle.touch.specs.Slabs.{slabOf, threeOf, productsOf, slabsOf, DirectionFits, EdgeFits, VertexFits, TriangleFits, CellFits};
+use grid::Cell;
+use touch::Slab;
+use touch::Slabs;
+use touch::Three;
+
+fn abs(x: i64) -> i64
+    requires { ⌜ In (2 ^ 39) x ⌝ }
+    ensures { λ r. ⌜ r ≡ pos (natAbs x) ⌝ }
+{
+    if x < 0 { -x } else { x }
+}
+
+// The projection of v on d.
+fn dot(d: [i64; 3], v: [i64; 3]) -> i64
+    requires { ⌜ DirectionFits d ⌝ }
+    requires { ⌜ VertexFits v ⌝ }
+    ensures { λ r. ⌜ r ≡ dotZ d v ⌝ }
+{
+    d[0] * v[0] + d[1] * v[1] + d[2] * v[2]
+}
+
+// How far a cell's cube reaches from its centre on d.
+fn span(d: [i64; 3]) -> i64
+    requires { ⌜ DirectionFits d ⌝ }
+    ensures { λ r. ⌜ r ≡ reach d ⌝ }
+{
+    numbers::HALF * (abs(d[0]) + abs(d[1]) + abs(d[2]))
+}
+
+// The cells that the direction d does not separate from the triangle t.
+fn slab_along(d: [i64; 3], t: [[i64; 3]; 3]) -> Slab
+    requires { ⌜ DirectionFits d ⌝ }
+    requires { ⌜ TriangleFits t ⌝ }
+    ensures { λ s. ⌜ s ≡ slabOf d t ⌝ }
+{
+    let a = dot(d, t[0]);
+    let b = dot(d, t[1]);
+    let c = dot(d, t[2]);
+    let r = span(d);
+    Slab {
+        x: numbers::SIDE * d[0],
+        y: numbers::SIDE * d[1],
+        z: numbers::SIDE * d[2],
+        low: touch::least(touch::least(a, b), c) - r,
+        high: touch::greatest(touch::greatest(a, b), c) + r,
+    }
+}
+
+fn edge_of(a: [i64; 3], b: [i64; 3]) -> [i64; 3]
+    requires { ⌜ VertexFits a ⌝ }
+    requires { ⌜ VertexFits b ⌝ }
+    ensures { λ r. ⌜ r ≡ edge a b ⌝ }
+{
+    [b[0] - a[0], b[1] - a[1], b[2] - a[2]]
+}
+
+fn cross_of(a: [i64; 3], b: [i64; 3]) -> [i64; 3]
+    requires { ⌜ EdgeFits a ⌝ }
+    requires { ⌜ EdgeFits b ⌝ }
+    ensures { λ r. ⌜ r ≡ cross a b ⌝ }
+{
+    [
+        a[1] * b[2] - a[2] * b[1],
+        a[2] * b[0] - a[0] * b[2],
+        a[0] * b[1] - a[1] * b[0],
+    ]
+}
+
+fn three_along(x: [i64; 3], y: [i64; 3], z: [i64; 3], t: [[i64; 3]; 3]) -> Three
+    requires { ⌜ DirectionFits x × DirectionFits y × DirectionFits z ⌝ }
+    requires { ⌜ TriangleFits t ⌝ }
+    ensures { λ s. ⌜ s ≡ threeOf x y z t ⌝ }
+{
+    let sx = slab_along(x, t);
+    let sy = slab_along(y, t);
+    let sz = slab_along(z, t);
+    Three {
+        x: sx,
+        y: sy,
+        z: sz,
+    }
+}
+
+// Of the products of the edge from a to b with the axes.
+fn products(a: [i64; 3], b: [i64; 3], t: [[i64; 3]; 3]) -> Three
+    requires { ⌜ VertexFits a × VertexFits b ⌝ }
+    requires { ⌜ TriangleFits t ⌝ }
+    ensures { λ s. ⌜ s ≡ productsOf (edge a b) t ⌝ }
+{
+    let e = edge_of(a, b);
+    let x = e[0];
+    let y = e[1];
+    let z = e[2];
+    three_along([0, z, -y], [-z, 0, x], [y, -x, 0], t)
+}
+
+fn normal_slab(t: [[i64; 3]; 3]) -> Slab
+    requires { ⌜ TriangleFits t ⌝ }
+    ensures { λ s. ⌜ s ≡ slabOf (normal t) t ⌝ }
+{
+    let e = edge_of(t[0], t[1]);
+    let f = edge_of(t[1], t[2]);
+    slab_along(cross_of(e, f), t)
+}
+
+// The thirteen directions of a triangle, with what each leaves of the cells: once a triangle.
+pub fn slabs_of(t: [[i64; 3]; 3]) -> Slabs
+    requires { ⌜ TriangleFits t ⌝ }
+    ensures { λ s. ⌜ s ≡ slabsOf t ⌝ }
+{
+    let axes = three_along([1, 0, 0], [0, 1, 0], [0, 0, 1], t);
+    let normal = normal_slab(t);
+    let edge01 = products(t[0], t[1], t);
+    let edge12 = products(t[1], t[2], t);
+    let edge20 = products(t[2], t[0], t);
+    Slabs {
+        axes,
+        normal,
+        edge01,
+        edge12,
+        edge20,
+    }
+}
+
+// Whether the triangle touches the cell: the two steps in one, by value.
+pub fn touches(t: [[i64; 3]; 3], c: Cell) -> bool
+    requires { ⌜ TriangleFits t ⌝ }
+    requires { ⌜ CellFits c ⌝ }
+    ensures { λ b. ⌜ b ≡ touching t c ⌝ }
+{
+    touch::within(slabs_of(t), c)
+}

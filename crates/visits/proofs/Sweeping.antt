@@ -1,0 +1,383 @@
+-- A triangle goes to the records of a block, part after part: the room for the next part, and what has been given with it; a row by its keys; and triangle after triangle. Assumes nothing.
+use mathlib.Core.Bool.{Bool, true≢false, true, false, not, cond, _&&_, _||_}
+use mathlib.Core.Path.{_≡_, refl, sym, ap, subst, _∙_}
+use mathlib.Core.Logic.{⊎-elim}
+use mathlib.Core.List.{List, [], _∷_, _++_, append-nil, append-assoc}
+use Prim.Native.Nat.{ℕ, zero, suc, _+_, _*_, _≤_, _<_}
+use native.Mathlib.Numerals.{add-one}
+use native.Mathlib.Omega.{arith}
+use lib.Dec.{leb, ltb}
+use lib.ListN.{length}
+use lib.Ieee.{Float}
+use borrow.Author.Tests.{lt-ltb, le-leb, leb-true, ltb-true}
+use Rattle.grid.specs.declared.Axes.{Axes}
+use Rattle.grid.specs.declared.Cell.{Cell}
+use Rattle.grid.specs.declared.Placement.{Placement}
+use Rattle.grid.proofs.First.{le-or-lt, both-true}
+use Rattle.touch.specs.declared.Slabs.{Slabs}
+use Rattle.touch.specs.Slabs.{keptAll, keptRow, CellFits, SlabsFit}
+use Rattle.touch.proofs.Laws.{kept-row}
+use Rattle.mesh.specs.declared.Block.{Block}
+use Rattle.mesh.specs.declared.Ends.{Ends}
+use Rattle.mesh.specs.Mesh.{triangles}
+use Rattle.mesh.specs.Ranges.{between, holds}
+use Rattle.marking.specs.Marked.{hits}
+use Rattle.marking.specs.Painted.{leftIn, one}
+use Rattle.marking.proofs.Paint.{upto, Walk, walk-starts, walk-on, none-along-i, none-along-j, more-i, more-j, done-i, done-j}
+use Rattle.tally.proofs.Sizes.{apart-i, apart-j}
+use Rattle.order.specs.Order.{key, chosen}
+use Rattle.listed.specs.Listed.{recordAt}
+use Rattle.lookup.specs.Lookup.{Table, Behind}
+use Rattle.rows.specs.Rows.{meets, keyed, gets, Visited, Free, Room}
+use Rattle.visits.specs.Visits.{slabAt, allOf}
+use Rattle.lookup.proofs.Tables.{behind-more, behind-none}
+use Rattle.rows.proofs.Visiting.{visited-none, visited-same, visited-then, room-part, room-rest, bump-table, bump-behind, bump-back, bump-gets, gets-either, gets-none, gets-same}
+
+-- two tests that imply each other are one
+same-test : (x y : Bool) → (x ≡ true → y ≡ true) → (y ≡ true → x ≡ true) → x ≡ y
+same-test true y f g = sym (f refl)
+same-test false true f g = g refl
+same-test false false f g = refl
+
+-- ---- the room of the same gifts
+
+pub room-same : (placing : Bool) (n : ℕ) (g h : ℕ → List ℕ) (o : List ℕ) (len : ℕ) → ((p : ℕ) → p < n → g p ≡ h p) → Room placing n g o len → Room placing n h o len
+room-same placing n g h o len e w = record { fits = λ p l. let z = ap (λ (xs : List ℕ). length xs) (e p l) in omega (arith, w .fits p l); free = go placing (w .free) }
+  where
+    go : (placing : Bool) → Free placing n g o len → Free placing n h o len
+    go true f = record {
+      inside = λ p l. let z = ap (λ (xs : List ℕ). length xs) (e p l) in omega (arith, f .inside p l);
+      apart = λ p q l k. let z = ap (λ (xs : List ℕ). length xs) (e p (omega arith)) in omega (arith, f .apart p q l k);
+    }
+    go false f = tt
+
+-- ---- one part more of a set `all`: what is done, the part, and both, which is `next`
+
+module _ (placing : Bool) (n t : ℕ) (all done part next : Cell → Bool) (o q : List ℕ) (len : ℕ) (room : Room placing n (gets t all o) o len)
+    (more : (c : Cell) → next c ≡ (done c || part c)) (apart : (c : Cell) → (done c && part c) ≡ false) (in-all : (c : Cell) → next c ≡ true → all c ≡ true)
+    (out list : List ℕ) (w : Visited placing n (gets t done o) o q out list) where
+  -- what is left over
+  abbrev rest : Cell → Bool
+  rest c = all c && not (next c)
+
+  split : (p : ℕ) → gets t all o p ≡ gets t next o p ++ gets t rest o p
+  split p = gets-either t next rest all o p (either (all (recordAt o p .cell)) (next (recordAt o p .cell)) (in-all (recordAt o p .cell))) (none (all (recordAt o p .cell)) (next (recordAt o p .cell)))
+    where
+      either : (a b : Bool) → (b ≡ true → a ≡ true) → a ≡ (b || (a && not b))
+      either true true h = refl
+      either true false h = refl
+      either false true h = h refl
+      either false false h = refl
+
+      none : (a b : Bool) → (b && (a && not b)) ≡ false
+      none true true = refl
+      none false true = refl
+      none a false = refl
+
+  next-room : Room placing n (gets t next o) o len
+  next-room = room-part n (gets t all o) (gets t next o) (gets t rest o) o (λ p l. split p) placing len room
+
+  grown : (p : ℕ) → p < n → gets t next o p ≡ gets t done o p ++ gets t part o p
+  grown p l = gets-either t done part next o p (more (recordAt o p .cell)) (apart (recordAt o p .cell))
+
+  -- the room for the part, as the records then stand
+  pub part-room : Room placing n (gets t part out) out len
+  part-room =
+      room-same placing n (gets t part o) (gets t part out) out len (λ p l. sym (bump-gets n (gets t done o) o out (w .bumped) t part p l))
+      (room-rest n (gets t next o) (gets t done o) (gets t part o) o grown out (w .bumped) placing len next-room)
+
+  pub part-done : (out' list' : List ℕ) → Visited placing n (gets t part out) out list out' list' → Visited placing n (gets t next o) o q out' list'
+  part-done out' list' v =
+      visited-then n (gets t next o) (gets t done o) (gets t part o) o grown placing len next-room q out list out' list' w
+      (visited-same n placing (gets t part out) (gets t part o) out list out' list' (λ p l. bump-gets n (gets t done o) o out (w .bumped) t part p l) v)
+
+-- ---- a part of what is walked along an axis lies in the whole
+
+upto-in : (e : Ends) (m x : ℕ) → m ≤ e .to → between (upto e m) x ≡ true → between e x ≡ true
+upto-in e m x h g =
+    let a = both-true (leb (e .from) x) (ltb x m) g .0 in
+    let b = ltb-true x m (both-true (leb (e .from) x) (ltb x m) g .1) in
+    rw (a, lt-ltb x (e .to) (omega arith))
+
+module _ (s : Slabs) (e : Ends) (m : ℕ) (h : m ≤ e .to) where
+  keeps : (a b : Bool) → (x y z k : Bool) → (x ≡ true → y ≡ true) → ((a && x) && b && k) ≡ true → ((a && y) && b && k) ≡ true
+  keeps true b true y z k f g = rw (f refl) g
+  keeps true b false y z k f g = absurd (let v : _≡_ {A = ℕ} 0 1 = cc in omega arith)
+  keeps false b x y z k f g = g
+
+  pub in-j : (i k : Ends) (c : Cell) → leftIn (record { i = i; j = upto e m; k = k }) s c ≡ true → leftIn (record { i = i; j = e; k = k }) s c ≡ true
+  unfolding holds
+  in-j i k c = keeps (between i (c .i)) (between k (c .k)) (between (upto e m) (c .j)) (between e (c .j)) true (keptAll s c) (upto-in e m (c .j) h)
+
+  pub in-i : (j k : Ends) (c : Cell) → leftIn (record { i = upto e m; j = j; k = k }) s c ≡ true → leftIn (record { i = e; j = j; k = k }) s c ≡ true
+  unfolding holds
+  in-i j k c = go (between (upto e m) (c .i)) (between e (c .i)) (between j (c .j)) (between k (c .k)) (keptAll s c) (upto-in e m (c .i) h)
+    where
+      go : (x y a b k : Bool) → (x ≡ true → y ≡ true) → (((x && a) && b) && k) ≡ true → (((y && a) && b) && k) ≡ true
+      go true y a b k f g = rw (f refl) g
+      go false y a b k f g = absurd (let v : _≡_ {A = ℕ} 0 1 = cc in omega arith)
+
+-- ---- the cells of a row, by their keys
+
+pub keyed-row : (s : Slabs) (i j : ℕ) (e : Ends) (c : Cell) → i < 256 → j < 256 → e .from ≤ 256 → e .to ≤ 256 → CellFits c
+    → keyed (i * 65536 + j * 256 + e .from) (i * 65536 + j * 256 + e .to) s c ≡ leftIn (record { i = one i; j = one j; k = e }) s c
+unfolding holds
+keyed-row s i j e c hi hj hf ht n = ap (λ (b : Bool). b && keptAll s c) (same-test (leb low (key c) && ltb (key c) high) ((between (one i) (c .i) && between (one j) (c .j)) && between e (c .k)) there back)
+  where
+    low : ℕ
+    low = i * 65536 + j * 256 + e .from
+
+    high : ℕ
+    high = i * 65536 + j * 256 + e .to
+
+    there : (leb low (key c) && ltb (key c) high) ≡ true → ((between (one i) (c .i) && between (one j) (c .j)) && between e (c .k)) ≡ true
+    there h =
+        let a = leb-true low (key c) (both-true (leb low (key c)) (ltb (key c) high) h .0) in
+        let b = ltb-true (key c) high (both-true (leb low (key c)) (ltb (key c) high) h .1) in
+        rw (
+          le-leb i (c .i) (omega (arith, n .i-near, n .j-near, n .k-near)),
+          lt-ltb (c .i) (i + 1) (omega (arith, n .i-near, n .j-near, n .k-near)),
+          le-leb j (c .j) (omega (arith, n .i-near, n .j-near, n .k-near)),
+          lt-ltb (c .j) (j + 1) (omega (arith, n .i-near, n .j-near, n .k-near)),
+          le-leb (e .from) (c .k) (omega (arith, n .i-near, n .j-near, n .k-near)),
+          lt-ltb (c .k) (e .to) (omega (arith, n .i-near, n .j-near, n .k-near)),
+        )
+
+    back : ((between (one i) (c .i) && between (one j) (c .j)) && between e (c .k)) ≡ true → (leb low (key c) && ltb (key c) high) ≡ true
+    back h =
+        let x = between (one i) (c .i) in
+        let y = between (one j) (c .j) in
+        let xy = both-true (x && y) (between e (c .k)) h .0 in
+        let bi = both-true x y xy .0 in
+        let bj = both-true x y xy .1 in
+        let bk = both-true (x && y) (between e (c .k)) h .1 in
+        let i1 = leb-true i (c .i) (both-true (leb i (c .i)) (ltb (c .i) (i + 1)) bi .0) in
+        let i2 = ltb-true (c .i) (i + 1) (both-true (leb i (c .i)) (ltb (c .i) (i + 1)) bi .1) in
+        let j1 = leb-true j (c .j) (both-true (leb j (c .j)) (ltb (c .j) (j + 1)) bj .0) in
+        let j2 = ltb-true (c .j) (j + 1) (both-true (leb j (c .j)) (ltb (c .j) (j + 1)) bj .1) in
+        let k1 = leb-true (e .from) (c .k) (both-true (leb (e .from) (c .k)) (ltb (c .k) (e .to)) bk .0) in
+        let k2 = ltb-true (c .k) (e .to) (both-true (leb (e .from) (c .k)) (ltb (c .k) (e .to)) bk .1) in
+        rw (le-leb low (key c) (omega arith), lt-ltb (key c) high (omega arith))
+
+-- so of a table's records they are the same
+pub row-gets : (t : ℕ) (s : Slabs) (i j : ℕ) (e : Ends) (o : List ℕ) (n : ℕ) → i < 256 → j < 256 → e .from ≤ 256 → e .to ≤ 256 → Table o n → (p : ℕ) → p < n
+    → gets t (keyed (i * 65536 + j * 256 + e .from) (i * 65536 + j * 256 + e .to) s) o p ≡ gets t (leftIn (record { i = one i; j = one j; k = e }) s) o p
+row-gets t s i j e o n hi hj hf ht w p l = gets-same t (keyed (i * 65536 + j * 256 + e .from) (i * 65536 + j * 256 + e .to) s) (leftIn (record { i = one i; j = one j; k = e }) s) o p (keyed-row s i j e (recordAt o p .cell) hi hj hf ht (w .near p l))
+
+-- ---- row after row of slab i
+
+abbrev rowsTo : ℕ → Slabs → Ends → Ends → ℕ → Cell → Bool
+rowsTo i s j k y = leftIn (record { i = one i; j = upto j y; k = k }) s
+
+abbrev rowIn : ℕ → Slabs → Ends → ℕ → Cell → Bool
+rowIn i s k y = leftIn (record { i = one i; j = one y; k = k }) s
+
+module _ (placing : Bool) (n t i : ℕ) (s : Slabs) (j k : Ends) (o q : List ℕ) where
+  -- the rows before y are done; the records before x lie before row y, and before the next slab
+  pub record Slabbing (out list : List ℕ) (x y : ℕ) : Type 0 where
+    pub walk : Walk j y
+    pub visits : Visited placing n (gets t (rowsTo i s j k y) o) o q out list
+    pub before-row : Behind o n (i * 65536 + y * 256 + k .from) x
+    pub before-slab : Behind o n ((i + 1) * 65536) x
+
+module _ (placing : Bool) (n t i : ℕ) (s : Slabs) (j k : Ends) (o q : List ℕ) (len : ℕ) (table : Table o n) (hi : i < 256) (hr : j .from < 256) (hj : j .to ≤ 256) (hf : k .from ≤ k .to) (hk : k .to ≤ 256)
+    (room : Room placing n (gets t (leftIn (record { i = one i; j = j; k = k }) s) o) o len) where
+  pub slabbing-first : (x : ℕ) → Behind o n (i * 65536 + j .from * 256 + k .from) x → Slabbing placing n t i s j k o q o q x (j .from)
+  slabbing-first x b = record {
+    walk = walk-starts j;
+    visits = visited-none n placing (gets t (rowsTo i s j k (j .from)) o) o q (λ p l. gets-none t (rowsTo i s j k (j .from)) o p (none-along-j s j (one i) k (recordAt o p .cell)));
+    before-row = b;
+    before-slab = behind-more o n (i * 65536 + j .from * 256 + k .from) ((i + 1) * 65536) x (omega arith) b;
+  }
+
+  module _ (out list : List ℕ) (x y : ℕ) (w : Slabbing placing n t i s j k o q out list x y) where
+    pub slabbing-done : j .to ≤ y → Visited placing n (gets t (leftIn (record { i = one i; j = j; k = k }) s) o) o q out list
+    slabbing-done h = visited-same n placing (gets t (rowsTo i s j k y) o) (gets t (leftIn (record { i = one i; j = j; k = k }) s) o) o q out list
+        (λ p l. gets-same t (rowsTo i s j k y) (leftIn (record { i = one i; j = j; k = k }) s) o p (done-j s j y (w .walk) h (one i) k (recordAt o p .cell))) (w .visits)
+
+    pub slab-table : Table out n
+    slab-table = bump-table n (gets t (rowsTo i s j k y) o) o out (w .visits .bumped) table
+
+    module _ (h : y < j .to) (low high : ℕ) (el : low ≡ i * 65536 + y * 256 + k .from) (eh : high ≡ i * 65536 + y * 256 + k .to) where
+      pub row-behind : Behind out n low x
+      row-behind = bump-behind n (gets t (rowsTo i s j k y) o) o out (w .visits .bumped) low x (behind-more o n (i * 65536 + y * 256 + k .from) low x (omega arith) (w .before-row))
+
+      row-same : (p : ℕ) → p < n → gets t (keyed low high s) out p ≡ gets t (rowIn i s k y) out p
+      row-same p l =
+          (λ m. gets t (keyed (el m) (eh m) s) out p)
+          ∙ row-gets t s i y k out n hi (omega arith) (omega arith) hk slab-table p l
+
+      pub row-room : (len' : ℕ) → len' ≡ len → Room placing n (gets t (keyed low high s) out) out len'
+      row-room len' z =
+          subst (Room placing n (gets t (keyed low high s) out) out) (sym z)
+          (room-same placing n (gets t (rowIn i s k y) out) (gets t (keyed low high s) out) out len (λ p l. sym (row-same p l))
+          (part-room placing n t (leftIn (record { i = one i; j = j; k = k }) s) (rowsTo i s j k y) (rowIn i s k y) (rowsTo i s j k (y + 1)) o q len room
+          (more-j s j y (w .walk) (one i) k) (apart-j s j y (one i) k) (in-j s j (y + 1) (omega arith) (one i) k) out list (w .visits)))
+
+      pub slabbing-on : (out' list' : List ℕ) (x' : ℕ) → Visited placing n (gets t (keyed low high s) out) out list out' list' → Behind out n high x' → Slabbing placing n t i s j k o q out' list' x' (y + 1)
+      slabbing-on out' list' x' v b =
+          let back = bump-back n (gets t (rowsTo i s j k y) o) o out (w .visits .bumped) high x' b in
+          record {
+            walk = walk-on j y (w .walk) h;
+            visits =
+                part-done placing n t (leftIn (record { i = one i; j = j; k = k }) s) (rowsTo i s j k y) (rowIn i s k y) (rowsTo i s j k (y + 1)) o q len room
+                (more-j s j y (w .walk) (one i) k) (apart-j s j y (one i) k) (in-j s j (y + 1) (omega arith) (one i) k) out list (w .visits) out' list'
+                (visited-same n placing (gets t (keyed low high s) out) (gets t (rowIn i s k y) out) out list out' list' row-same v);
+            before-row = behind-more o n high (i * 65536 + (y + 1) * 256 + k .from) x' (omega arith) back;
+            before-slab = behind-more o n high ((i + 1) * 65536) x' (omega arith) back;
+          }
+
+-- a row that the directions without k leave nothing of gets nothing
+row-empty : (i y : ℕ) (s : Slabs) (k : Ends) → SlabsFit s → keptRow s i y ≡ false → (c : Cell) → rowIn i s k y c ≡ false
+unfolding holds
+row-empty i y s k f z c = go ((between (one i) (c .i) && between (one y) (c .j)) && between k (c .k)) (keptAll s c) refl refl
+  where
+    here : (n x : ℕ) → between (one n) x ≡ true → x ≡ n
+    here n x h =
+        let p = leb-true n x (both-true (leb n x) (ltb x (n + 1)) h .0) in
+        let q = ltb-true x (n + 1) (both-true (leb n x) (ltb x (n + 1)) h .1) in
+        omega arith
+
+    go : (a b : Bool) → ((between (one i) (c .i) && between (one y) (c .j)) && between k (c .k)) ≡ a → keptAll s c ≡ b → (((between (one i) (c .i) && between (one y) (c .j)) && between k (c .k)) && keptAll s c) ≡ false
+    go false b e g = ap (λ (x : Bool). x && keptAll s c) e
+    go true false e g = ap (λ (x : Bool). x && keptAll s c) e ∙ g
+    go true true e g =
+        let ij = both-true (between (one i) (c .i) && between (one y) (c .j)) (between k (c .k)) e .0 in
+        let hi = here i (c .i) (both-true (between (one i) (c .i)) (between (one y) (c .j)) ij .0) in
+        let hj = here y (c .j) (both-true (between (one i) (c .i)) (between (one y) (c .j)) ij .1) in
+        absurd (true≢false (sym (kept-row s c f g) ∙ (λ t. keptRow s (hi t) (hj t)) ∙ z))
+
+pub slabbing-skip : (placing : Bool) (n t i : ℕ) (s : Slabs) (j k : Ends) (o q out list : List ℕ) (x y : ℕ) → SlabsFit s → keptRow s i y ≡ false → y < j .to
+    → Slabbing placing n t i s j k o q out list x y → Slabbing placing n t i s j k o q out list x (y + 1)
+slabbing-skip placing n t i s j k o q out list x y f z h w = record {
+  walk = walk-on j y (w .walk) h;
+  visits = visited-same n placing (gets t (rowsTo i s j k y) o) (gets t (rowsTo i s j k (y + 1)) o) o q out list same (w .visits);
+  before-row = behind-more o n (i * 65536 + y * 256 + k .from) (i * 65536 + (y + 1) * 256 + k .from) x (omega arith) (w .before-row);
+  before-slab = w .before-slab;
+}
+  where
+    same : (p : ℕ) → p < n → gets t (rowsTo i s j k y) o p ≡ gets t (rowsTo i s j k (y + 1)) o p
+    same p l =
+        let c = recordAt o p .cell in
+        sym (gets-either t (rowsTo i s j k y) (rowIn i s k y) (rowsTo i s j k (y + 1)) o p (more-j s j y (w .walk) (one i) k c) (apart-j s j y (one i) k c)
+        ∙ ap (λ (ys : List ℕ). gets t (rowsTo i s j k y) o p ++ ys) (gets-none t (rowIn i s k y) o p (row-empty i y s k f z c))
+        ∙ append-nil (gets t (rowsTo i s j k y) o p))
+
+-- ---- slab after slab of a block
+
+abbrev slabsTo : Slabs → Block → ℕ → Cell → Bool
+slabsTo s b y = leftIn (record { i = upto (b .i) y; j = b .j; k = b .k }) s
+
+module _ (placing : Bool) (n t : ℕ) (s : Slabs) (b : Block) (o q : List ℕ) where
+  pub record Blocking (out list : List ℕ) (x y : ℕ) : Type 0 where
+    pub walk : Walk (b .i) y
+    pub visits : Visited placing n (gets t (slabsTo s b y) o) o q out list
+    pub before : Behind o n (y * 65536) x
+
+module _ (placing : Bool) (n t : ℕ) (s : Slabs) (b : Block) (o q : List ℕ) (len : ℕ) (table : Table o n)
+    (room : Room placing n (gets t (leftIn b s) o) o len) where
+  pub blocking-first : Blocking placing n t s b o q o q 0 (b .i .from)
+  blocking-first = record {
+    walk = walk-starts (b .i);
+    visits = visited-none n placing (gets t (slabsTo s b (b .i .from)) o) o q (λ p l. gets-none t (slabsTo s b (b .i .from)) o p (none-along-i s (b .i) (b .j) (b .k) (recordAt o p .cell)));
+    before = behind-none o n (b .i .from * 65536);
+  }
+
+  module _ (out list : List ℕ) (x y : ℕ) (w : Blocking placing n t s b o q out list x y) where
+    pub blocking-done : b .i .to ≤ y → Visited placing n (gets t (leftIn b s) o) o q out list
+    blocking-done h = visited-same n placing (gets t (slabsTo s b y) o) (gets t (leftIn b s) o) o q out list
+        (λ p l. gets-same t (slabsTo s b y) (leftIn b s) o p (done-i s (b .i) y (w .walk) h (b .j) (b .k) (recordAt o p .cell))) (w .visits)
+
+    pub block-table : Table out n
+    block-table = bump-table n (gets t (slabsTo s b y) o) o out (w .visits .bumped) table
+
+    pub slab-behind : (low : ℕ) → y * 65536 ≤ low → Behind out n low x
+    slab-behind low h = bump-behind n (gets t (slabsTo s b y) o) o out (w .visits .bumped) low x (behind-more o n (y * 65536) low x h (w .before))
+
+    module _ (h : y < b .i .to) where
+      pub slab-room : (len' : ℕ) → len' ≡ len → Room placing n (gets t (leftIn (slabAt b y) s) out) out len'
+      slab-room len' z =
+          subst (Room placing n (gets t (leftIn (slabAt b y) s) out) out) (sym z)
+          (part-room placing n t (leftIn b s) (slabsTo s b y) (leftIn (slabAt b y) s) (slabsTo s b (y + 1)) o q len room
+          (more-i s (b .i) y (w .walk) (b .j) (b .k)) (apart-i s (b .i) y (b .j) (b .k)) (in-i s (b .i) (y + 1) (omega arith) (b .j) (b .k)) out list (w .visits))
+
+      pub blocking-on : (out' list' : List ℕ) (x' : ℕ) → Visited placing n (gets t (leftIn (slabAt b y) s) out) out list out' list' → Behind out n ((y + 1) * 65536) x' → Blocking placing n t s b o q out' list' x' (y + 1)
+      blocking-on out' list' x' v a = record {
+        walk = walk-on (b .i) y (w .walk) h;
+        visits =
+            part-done placing n t (leftIn b s) (slabsTo s b y) (leftIn (slabAt b y) s) (slabsTo s b (y + 1)) o q len room
+            (more-i s (b .i) y (w .walk) (b .j) (b .k)) (apart-i s (b .i) y (b .j) (b .k)) (in-i s (b .i) (y + 1) (omega arith) (b .j) (b .k)) out list (w .visits) out' list' v;
+        before = bump-back n (gets t (slabsTo s b y) o) o out (w .visits .bumped) ((y + 1) * 65536) x' a;
+      }
+
+-- ---- triangle after triangle
+
+module _ (placing : Bool) (n : ℕ) (ps : List Float) (ts : List ℕ) (r : Axes) (at : Placement) (o q : List ℕ) where
+  -- the first t triangles have gone to their records
+  pub record Going (out list : List ℕ) (t : ℕ) : Type 0 where
+    pub most : t ≤ triangles ts
+    pub visits : Visited placing n (allOf ps ts r at o t) o q out list
+
+-- more triangles, more to give
+chosen-part : (ok : ℕ → Bool) (a b : ℕ) → a ≤ b → (xs : List ℕ) × (chosen ok b ≡ chosen ok a ++ xs)
+unfolding chosen
+chosen-part ok a zero h = let e : a ≡ 0 = omega arith in ([], sym (append-nil (chosen ok a) ∙ ap (chosen ok) e))
+chosen-part ok a (suc b) h =
+    ⊎-elim
+    (λ l. let w = chosen-part ok a b l in (w .0 ++ cond (ok b) (b ∷ []) [], ap (λ (ys : List ℕ). ys ++ cond (ok b) (b ∷ []) []) (w .1) ∙ append-assoc (chosen ok a) (w .0) (cond (ok b) (b ∷ []) [])))
+    (λ l. let e : a ≡ suc b = omega arith in ([], sym (append-nil (chosen ok a) ∙ ap (chosen ok) e)))
+    (le-or-lt a b)
+
+module _ (placing : Bool) (n : ℕ) (ps : List Float) (ts : List ℕ) (r : Axes) (at : Placement) (o q : List ℕ) (len : ℕ) (table : Table o n)
+    (room : Room placing n (allOf ps ts r at o (triangles ts)) o len) where
+  pub going-first : Going placing n ps ts r at o q o q 0
+  unfolding chosen
+  going-first = record { most = omega arith; visits = visited-none n placing (allOf ps ts r at o 0) o q (λ p l. refl) }
+
+  module _ (out list : List ℕ) (t : ℕ) (w : Going placing n ps ts r at o q out list t) where
+    pub going-done : triangles ts ≤ t → Visited placing n (allOf ps ts r at o (triangles ts)) o q out list
+    going-done h = subst (λ (k : ℕ). Visited placing n (allOf ps ts r at o k) o q out list) (let m = w .most in let e : t ≡ triangles ts = omega arith in e) (w .visits)
+
+    pub going-table : Table out n
+    going-table = bump-table n (allOf ps ts r at o t) o out (w .visits .bumped) table
+
+    module _ (h : t < triangles ts) where
+      abbrev one-more : ℕ → List ℕ
+      one-more p = gets t (hits ps ts r at t) o p
+
+      grows : (p : ℕ) → p < n → allOf ps ts r at o (t + 1) p ≡ allOf ps ts r at o t p ++ one-more p
+      unfolding chosen
+      grows p l = ap (chosen (λ u. meets (hits ps ts r at u) (recordAt o p))) (add-one t)
+
+      upto-room : Room placing n (allOf ps ts r at o (t + 1)) o len
+      upto-room =
+          room-part n (allOf ps ts r at o (triangles ts)) (allOf ps ts r at o (t + 1)) (λ p. chosen-part (λ u. meets (hits ps ts r at u) (recordAt o p)) (t + 1) (triangles ts) (omega arith) .0) o
+          (λ p l. chosen-part (λ u. meets (hits ps ts r at u) (recordAt o p)) (t + 1) (triangles ts) (omega arith) .1) placing len room
+
+      kept-gets : (p : ℕ) → p < n → gets t (hits ps ts r at t) out p ≡ one-more p
+      kept-gets p l = bump-gets n (allOf ps ts r at o t) o out (w .visits .bumped) t (hits ps ts r at t) p l
+
+      pub triangle-room : (len' : ℕ) → len' ≡ len → Room placing n (gets t (hits ps ts r at t) out) out len'
+      triangle-room len' z =
+          subst (Room placing n (gets t (hits ps ts r at t) out) out) (sym z)
+          (room-same placing n one-more (gets t (hits ps ts r at t) out) out len (λ p l. sym (kept-gets p l))
+          (room-rest n (allOf ps ts r at o (t + 1)) (allOf ps ts r at o t) one-more o grows out (w .visits .bumped) placing len upto-room))
+
+      pub going-on : (out' list' : List ℕ) → Visited placing n (gets t (hits ps ts r at t) out) out list out' list' → Going placing n ps ts r at o q out' list' (t + 1)
+      going-on out' list' v = record {
+        most = omega arith;
+        visits =
+            visited-then n (allOf ps ts r at o (t + 1)) (allOf ps ts r at o t) one-more o grows placing len upto-room q out list out' list' (w .visits)
+            (visited-same n placing (gets t (hits ps ts r at t) out) one-more out list out' list' kept-gets v);
+      }
+
+-- a block that holds a cell of the grid begins along j before the last place, and ends along k behind where it begins
+pub held-ends : (b : Block) (c : Cell) → c .j < 256 → holds b c ≡ true → (b .j .from < 256) × (b .k .from ≤ b .k .to)
+unfolding holds
+held-ends b c l h =
+    let e = both-true (between (b .i) (c .i)) (between (b .j) (c .j)) (both-true (between (b .i) (c .i) && between (b .j) (c .j)) (between (b .k) (c .k)) h .0) .1 in
+    let z = leb-true (b .j .from) (c .j) (both-true (leb (b .j .from) (c .j)) (ltb (c .j) (b .j .to)) e .0) in
+    let g = both-true (between (b .i) (c .i) && between (b .j) (c .j)) (between (b .k) (c .k)) h .1 in
+    let x = leb-true (b .k .from) (c .k) (both-true (leb (b .k .from) (c .k)) (ltb (c .k) (b .k .to)) g .0) in
+    let y = ltb-true (c .k) (b .k .to) (both-true (leb (b .k .from) (c .k)) (ltb (c .k) (b .k .to)) g .1) in
+    (omega arith, omega arith)

@@ -1,0 +1,20 @@
+-- The slabs of a block, and what all triangles give to a record. Definitions only.
+use mathlib.Core.List.{List}
+use Prim.Native.Nat.{ℕ}
+use lib.Ieee.{Float}
+use Rattle.grid.specs.declared.Axes.{Axes}
+use Rattle.grid.specs.declared.Placement.{Placement}
+use Rattle.mesh.specs.declared.Block.{Block}
+use Rattle.marking.specs.Marked.{hits}
+use Rattle.marking.specs.Painted.{one}
+use Rattle.order.specs.Order.{chosen}
+use Rattle.listed.specs.Listed.{recordAt}
+use Rattle.rows.specs.Rows.{meets}
+
+-- slab i of a block
+abbrev pub slabAt : Block → ℕ → Block
+slabAt b i = record { i = one i; j = b .j; k = b .k }
+
+-- the first t triangles, each if it has the record's cell as a candidate and touches it
+abbrev pub allOf : List Float → List ℕ → Axes → Placement → List ℕ → ℕ → ℕ → List ℕ
+allOf ps ts r at o t p = chosen (λ u. meets (hits ps ts r at u) (recordAt o p)) t
