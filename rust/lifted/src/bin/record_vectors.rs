@@ -267,8 +267,11 @@ fn stream(head: Vec<u8>, points: &[[f32; 3]], triangles: &[[u32; 3]]) -> Vec<u8>
     head.into_iter().chain(points).chain(triangles).chain(*b"Vz").collect()
 }
 
+/// Points and triangles.
+type Steel = (Vec<[f32; 3]>, Vec<[u32; 3]>);
+
 /// The points and the triangles of a box, face by face, of which the last are left out.
-fn shell(low: [f32; 3], high: [f32; 3], left_out: usize) -> (Vec<[f32; 3]>, Vec<[u32; 3]>) {
+fn shell(low: [f32; 3], high: [f32; 3], left_out: usize) -> Steel {
     let corner = |n: usize| [0, 1, 2].map(|a| if n >> a & 1 == 0 { low[a] } else { high[a] });
     let faces = [[0, 1, 3, 2], [4, 5, 7, 6], [0, 1, 5, 4], [2, 3, 7, 6], [0, 2, 6, 4], [1, 3, 7, 5]];
     let halves = faces[..6 - left_out].iter().flat_map(|&[a, b, c, d]| [[a, b, c], [a, c, d]]);
@@ -276,13 +279,19 @@ fn shell(low: [f32; 3], high: [f32; 3], left_out: usize) -> (Vec<[f32; 3]>, Vec<
 }
 
 /// Boxes one in another.
-fn nested(shells: &[(Vec<[f32; 3]>, Vec<[u32; 3]>)]) -> (Vec<[f32; 3]>, Vec<[u32; 3]>) {
+fn nested(shells: &[Steel]) -> Steel {
     let (mut points, mut triangles) = (vec![], vec![]);
     for (p, t) in shells {
         let first = points.len() as u32;
         triangles.extend(t.iter().map(|t| t.map(|v| v + first)));
         points.extend(p);
     }
+    (points, triangles)
+}
+
+/// The mesh in a grid that has room about it: two points more, which no triangle names.
+fn roomy((mut points, triangles): Steel) -> Steel {
+    points.extend([[-2.0; 3], [11.0; 3]]);
     (points, triangles)
 }
 
@@ -303,12 +312,13 @@ fn meshes(out: &mut Vec<Vec<u8>>) {
     let sheet = (vec![[0.0, 0.0, 1.0], [3.0, 0.0, 1.5], [0.0, 3.0, 2.0], [3.0, 3.0, 0.0]], vec![[0, 1, 2], [1, 3, 2]]);
     let all = [
         outer.clone(),
-        shell([-1.0; 3], [1.5, 1.25, 3.0], 1),
-        shell([0.1, 0.2, 0.3], [4.4, 2.2, 1.1], 0),
+        roomy(outer.clone()),
+        roomy(shell([-1.0; 3], [1.5, 1.25, 3.0], 1)),
+        roomy(shell([0.1, 0.2, 0.3], [4.4, 2.2, 1.1], 0)),
         shell([0.0; 3], [7.0; 3], 5),
-        nested(&[outer, inner]),
-        nested(&[shell([0.0; 3], [9.0; 3], 0), shell([2.0; 3], [7.0; 3], 0), inmost]),
-        nested(&[shell([0.0; 3], [9.0; 3], 1), shell([2.0; 3], [7.0; 3], 0)]),
+        roomy(nested(&[outer, inner])),
+        roomy(nested(&[shell([0.0; 3], [9.0; 3], 0), shell([2.0; 3], [7.0; 3], 0), inmost])),
+        roomy(nested(&[shell([0.0; 3], [9.0; 3], 1), shell([2.0; 3], [7.0; 3], 0)])),
         sheet,
         (vec![[1.0, 2.0, 3.0]], vec![[0, 0, 0]]),
         (vec![[1.0, 2.0, 3.0]], vec![]),
@@ -320,7 +330,7 @@ fn meshes(out: &mut Vec<Vec<u8>>) {
             for size in [0.5, 0.7] {
                 out.push(stream(by_size(mode, size), points, triangles));
             }
-            out.extend([2, 5, 12].map(|r| stream(by_resolution(mode, r), points, triangles)));
+            out.extend([5, 14, 20].map(|r| stream(by_resolution(mode, r), points, triangles)));
         }
     }
 }
