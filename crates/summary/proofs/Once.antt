@@ -1,5 +1,5 @@
 -- What the contract of `summarize` says: two answers that fit it coincide (`settled`), and which numbers it gives (`summary-numbers`). Assumes nothing.
-use mathlib.Core.Bool.{Bool, true, false, _&&_, _||_, false≢true}
+use mathlib.Core.Bool.{Bool, true, false, _||_}
 use mathlib.Core.List.{List, [], _∷_}
 use mathlib.Core.Path.{_≡_, refl, sym, ap, _∙_, subst}
 use Prim.Native.Nat.{ℕ, _+_, _/_}
@@ -15,6 +15,7 @@ use Rattle.grid.specs.declared.Refusal.{Refusal}
 use Rattle.grid.specs.Answers.{Outcome, answers, refuses, isOneOf, Finds, Gives}
 use Rattle.grid.specs.First.{every}
 use Rattle.grid.specs.Grid.{cells}
+use Rattle.grid.proofs.First.{both-true}
 use Rattle.grid.proofs.Checks.{finds-if, finds-then, finds-first, gives-unless}
 use Rattle.sizing.specs.Points.{noneFault, numbersFault}
 use Rattle.sizing.specs.Sizing.{Laid, points}
@@ -96,10 +97,6 @@ unfolding every
 one-of [] ns h n t = absurd t
 one-of (m ∷ ms) ns h n t = go (eqb n m) refl t (one-of ms ns (both-true (isOneOf m ns) _ h .1) n)
   where
-    both-true : (a b : Bool) → (a && b) ≡ true → (a ≡ true) × (b ≡ true)
-    both-true true b e = (refl, e)
-    both-true false b e = absurd (false≢true e)
-
     go : (b : Bool) → eqb n m ≡ b → T (b || isOneOf n ms) → (T (isOneOf n ms) → T (isOneOf n ns)) → T (isOneOf n ns)
     go true e t k = subst (λ (i : ℕ). T (isOneOf i ns)) (sym (eqb-true n m e)) (subst T (sym (both-true (isOneOf m ns) _ h .0)) tt)
     go false e t k = k t
