@@ -32,11 +32,11 @@ use Rattle.reader.proofs.Laws.{there}
 
 -- ---- what a record that was taken shows
 
-from-whole : (b : Bytes) (at : ℕ) (x : Step) (r : Record) → Step.Took r ≡ whole b at x → (There ≡ b) × (Step.Took r ≡ x)
+pub from-whole : (b : Bytes) (at : ℕ) (x : Step) (r : Record) → Step.Took r ≡ whole b at x → (There ≡ b) × (Step.Took r ≡ x)
 from-whole There at x r h = (refl, h)
 from-whole Cut at x r h = absurd (let z : _≡_ {A = ℕ} 0 1 = cc in omega arith)
 
-from-cond : (t : Bool) (f : Refusal) (x : Step) (r : Record) → Step.Took r ≡ cond t (Step.Refused f) x → (t ≡ false) × (Step.Took r ≡ x)
+pub from-cond : (t : Bool) (f : Refusal) (x : Step) (r : Record) → Step.Took r ≡ cond t (Step.Refused f) x → (t ≡ false) × (Step.Took r ≡ x)
 from-cond false f x r h = (refl, h)
 from-cond true f x r h = absurd (let z : _≡_ {A = ℕ} 0 1 = cc in omega arith)
 
