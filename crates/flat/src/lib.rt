@@ -363,21 +363,21 @@ pub fn of_summing(m: Summing) -> Summarized
     ensures { λ a. ⌜ summarized a ≡ flatOf noSummary (summings.outcome m) ⌝ }
 {
     match m {
-        Summing::Summed(n) => {
-            let r = n.axes;
+        Summing::Summed(s) => {
+            let a = s.axes;
             Summarized {
                 number: 0,
                 place: 0,
                 axes: Axes {
-                    r0: r.r0,
-                    r1: r.r1,
-                    r2: r.r2,
+                    r0: a.r0,
+                    r1: a.r1,
+                    r2: a.r2,
                 },
-                outside: n.outside,
-                inside: n.inside,
-                surface: n.surface,
-                left: n.left,
-                scans: n.scans,
+                outside: s.outside,
+                inside: s.inside,
+                surface: s.surface,
+                left: s.left,
+                scans: s.scans,
             }
         }
         Summing::Refused(f) => Summarized {
