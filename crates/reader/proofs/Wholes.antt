@@ -8,7 +8,7 @@ use native.Mathlib.Omega.{arith}
 use lib.Dec.{eqb, leb, ltb}
 use lib.Ieee.{Float, binary32, ofBits}
 use lib.ListN.{length, getD, take, drop, length-append, length-drop, take-append-drop, List·getD-append}
-use lib.Seq.{drop-cons, drop-length, getD-take, getD-drop, length-take-le, take-append-seam, drop-append-seam}
+use lib.Seq.{drop-cons, drop-length, drop-drop, getD-take, getD-drop, length-take-le, take-append-seam, drop-append-seam}
 use borrow.Author.Tests.{eqb-true, le-ltb, lt-leb, ltb-false, leb-false}
 use Rattle.grid.specs.Answers.{Outcome, answers, refuses}
 use Rattle.sizing.specs.declared.Point.{Point}
@@ -78,14 +78,18 @@ mark-is a b k h = first (eqb a 86) refl h
 
 -- ---- a record among the bytes
 
-drop-drop : {A : Type 0} (n m : ℕ) (l : List A) → drop m (drop n l) ≡ drop (n + m) l
-drop-drop zero m l = ap (λ (k : ℕ). drop k l) (let e : m ≡ 0 + m = omega arith in e)
-drop-drop (suc n) m [] = none m ∙ sym (none (suc n + m))
-  where
-    none : {A : Type 0} (k : ℕ) → _≡_ {A = List A} (drop k []) []
-    none zero = refl
-    none (suc k) = refl
-drop-drop (suc n) m (x ∷ l) = drop-drop n m l ∙ ap (λ (k : ℕ). drop k (x ∷ l)) (let e : suc (n + m) ≡ suc n + m = omega arith in e)
+-- the first two bytes from a place on
+two-on : (s : List ℕ) (at : ℕ) → at + 2 ≤ length s → drop at s ≡ getD s at 0 ∷ getD s (at + 1) 0 ∷ drop (at + 2) s
+two-on s at h =
+    drop-cons s at 0 (omega arith)
+    ∙ ap (λ (n : ℕ). getD s at 0 ∷ drop n s) (let e : suc at ≡ at + 1 = omega arith in e)
+    ∙ ap (λ (xs : List ℕ). getD s at 0 ∷ xs) (drop-cons s (at + 1) 0 (omega arith) ∙ ap (λ (n : ℕ). getD s (at + 1) 0 ∷ drop n s) (let e : suc (at + 1) ≡ at + 2 = omega arith in e))
+
+marks-in : (s : List ℕ) (at a b : ℕ) (rest : List ℕ) → drop at s ≡ a ∷ b ∷ rest → (getD s at 0 ≡ a) × (getD s (at + 1) 0 ≡ b)
+marks-in s at a b rest e = (
+  ap (λ (n : ℕ). getD s n 0) (let z : at ≡ at + 0 = omega arith in z) ∙ sym (getD-drop at s 0 0) ∙ ap (λ (xs : List ℕ). getD xs 0 0) e,
+  sym (getD-drop at s 1 0) ∙ ap (λ (xs : List ℕ). getD xs 1 0) e,
+)
 
 module _ (s : List ℕ) (at : ℕ) where
   -- the twelve bytes after a mark
@@ -127,21 +131,12 @@ module _ (s : List ℕ) (at : ℕ) where
 
   -- a mark, twelve bytes, and the rest
   front : (k : ℕ) → at + 14 ≤ length s → getD s at 0 ≡ 86 → getD s (at + 1) 0 ≡ k → drop at s ≡ recordOf k body ++ drop (at + 14) s
-  front k h a b =
-      drop-cons s at 0 (omega arith)
-      ∙ (λ i. a i ∷ two i)
-      ∙ (λ i. 86 ∷ b i ∷ rest i)
+  front k h a b = two-on s at (omega arith) ∙ (λ i. a i ∷ b i ∷ rest i)
     where
-      two : drop (suc at) s ≡ getD s (at + 1) 0 ∷ drop (at + 2) s
-      two =
-          ap (λ (n : ℕ). drop n s) (let e : suc at ≡ at + 1 = omega arith in e)
-          ∙ drop-cons s (at + 1) 0 (omega arith)
-          ∙ ap (λ (n : ℕ). getD s (at + 1) 0 ∷ drop n s) (let e : suc (at + 1) ≡ at + 2 = omega arith in e)
-
       rest : drop (at + 2) s ≡ body ++ drop (at + 14) s
       rest =
           sym (take-append-drop 12 (drop (at + 2) s))
-          ∙ ap (λ (xs : List ℕ). body ++ xs) (drop-drop (at + 2) 12 s ∙ ap (λ (n : ℕ). drop n s) (let e : at + 2 + 12 ≡ at + 14 = omega arith in e))
+          ∙ ap (λ (xs : List ℕ). body ++ xs) (drop-drop 12 (at + 2) s ∙ ap (λ (n : ℕ). drop n s) (let e : at + 2 + 12 ≡ at + 14 = omega arith in e))
 
   body-long : at + 14 ≤ length s → length body ≡ 12
   body-long h = length-take-le 12 (drop (at + 2) s) (omega (arith, length-drop (at + 2) s))
@@ -157,16 +152,16 @@ record Fronts (s : List ℕ) (at k : ℕ) (b rest : List ℕ) : Type 0 where
 fronts : (s : List ℕ) (at k : ℕ) (b rest : List ℕ) → at ≤ length s → length b ≡ 12 → drop at s ≡ recordOf k b ++ rest → Fronts s at k b rest
 fronts s at k b rest h l e = record {
   held = omega (arith, length-drop at s, ap length e, length-append b rest, l);
-  first = ap (λ (n : ℕ). getD s n 0) (let z : at ≡ at + 0 = omega arith in z) ∙ sym (getD-drop at s 0 0) ∙ ap (λ (xs : List ℕ). getD xs 0 0) e;
-  second = sym (getD-drop at s 1 0) ∙ ap (λ (xs : List ℕ). getD xs 1 0) e;
+  first = marks-in s at 86 k (b ++ rest) e .0;
+  second = marks-in s at 86 k (b ++ rest) e .1;
   body-is = ap (take 12) after ∙ subst (λ (n : ℕ). take n (b ++ rest) ≡ b) l (take-append-seam b rest);
   rest-is =
-      ap (λ (n : ℕ). drop n s) (let z : at + 14 ≡ at + 2 + 12 = omega arith in z) ∙ sym (drop-drop (at + 2) 12 s) ∙ ap (drop 12) after
+      ap (λ (n : ℕ). drop n s) (let z : at + 14 ≡ at + 2 + 12 = omega arith in z) ∙ sym (drop-drop 12 (at + 2) s) ∙ ap (drop 12) after
       ∙ subst (λ (n : ℕ). drop n (b ++ rest) ≡ rest) l (drop-append-seam b rest);
 }
   where
     after : drop (at + 2) s ≡ b ++ rest
-    after = sym (drop-drop at 2 s) ∙ ap (drop 2) e
+    after = sym (drop-drop 2 at s) ∙ ap (drop 2) e
 
 -- ---- what each step takes, and from what
 
@@ -296,17 +291,8 @@ module _ (s : List ℕ) (h : Head) where
 
   end-bytes : (at : ℕ) → length s ≡ at + 2 → getD s at 0 ≡ 86 → getD s (at + 1) 0 ≡ 122 → drop at s ≡ recordsOf [] []
   unfolding joinAll
-  end-bytes at l a b =
-      drop-cons s at 0 (omega (arith, l))
-      ∙ (λ i. a i ∷ two i)
-      ∙ (λ i. 86 ∷ b i ∷ none i)
+  end-bytes at l a b = two-on s at (omega (arith, l)) ∙ (λ i. a i ∷ b i ∷ none i)
     where
-      two : drop (suc at) s ≡ getD s (at + 1) 0 ∷ drop (at + 2) s
-      two =
-          ap (λ (n : ℕ). drop n s) (let e : suc at ≡ at + 1 = omega arith in e)
-          ∙ drop-cons s (at + 1) 0 (omega (arith, l))
-          ∙ ap (λ (n : ℕ). getD s (at + 1) 0 ∷ drop n s) (let e : suc (at + 1) ≡ at + 2 = omega arith in e)
-
       none : drop (at + 2) s ≡ []
       none = ap (λ (n : ℕ). drop n s) (sym l) ∙ drop-length s
 
@@ -378,9 +364,8 @@ module _ (s : List ℕ) (h : Head) where
   unfolding joinAll
   rest-reads at ps ts p q [] [] w l m f g o e =
       let n : length s ≡ at + 2 = omega (arith, w .inside, length-drop at s, ap length e) in
-      let a : getD s at 0 ≡ 86 = ap (λ (k : ℕ). getD s k 0) (let z : at ≡ at + 0 = omega arith in z) ∙ sym (getD-drop at s 0 0) ∙ ap (λ (xs : List ℕ). getD xs 0 0) e in
-      let b : getD s (at + 1) 0 ≡ 122 = sym (getD-drop at s 1 0) ∙ ap (λ (xs : List ℕ). getD xs 1 0) e in
-      subst (λ (x : Outcome Stream). Reads s h at ps ts x) (λ i. streamed (no-more floatsIn ps i) (no-more wordsIn ts i)) (Reads.end (takes-end s at (counted ps ts) n a b))
+      let v = marks-in s at 86 122 [] e in
+      subst (λ (x : Outcome Stream). Reads s h at ps ts x) (λ i. streamed (no-more floatsIn ps i) (no-more wordsIn ts i)) (Reads.end (takes-end s at (counted ps ts) n (v .0) (v .1)))
   rest-reads at ps ts p q [] (c ∷ cs) w l m f g o e =
       let v = fronts s at 116 c (recordsOf [] cs) (w .inside) (m .0) (e ∙ sym (more-triangles c cs)) in
       let n : length ts / 3 < 256 = omega (arith, w .triangles-taken) in

@@ -4,7 +4,7 @@ use mathlib.Core.List.{List, [], _∷_, _++_}
 use mathlib.Core.Logic.{⊎-elim}
 use mathlib.Core.Path.{_≡_, refl, sym, ap, _∙_, subst}
 use Prim.Native.Nat.{ℕ, zero, suc, _+_, _-_, _*_, _/_, _%_, _^_, _≤_, _<_}
-use native.Mathlib.Nat.{pow-le-pow-right}
+use native.Mathlib.Nat.{one-le-pow, pow-le-pow-right}
 use native.Mathlib.Omega.{arith}
 use lib.Dec.{ltb, lit<}
 use lib.ListN.{length, take, getD, set, length-append}
@@ -23,10 +23,6 @@ use Rattle.text.specs.Text.{decimalIn, decimal, spaced, line, Put}
 shown : (n : ℕ) → glyph (n % 10) ≡ 48 + n % 10
 shown n = ap (λ (b : Bool). cond b (48 + n % 10) (87 + n % 10)) (lt-ltb (n % 10) 10 (omega arith))
 
-power : (k : ℕ) → 0 < 10 ^ k
-power zero = omega arith
-power (suc k) = omega (arith, power k)
-
 -- as many digits as hold n, and no zero before them
 digits-are : (f k n : ℕ) → k < f → n < 10 ^ suc k → (1 < suc k → 10 ^ k ≤ n) → digits 10 (suc k) n ≡ decimalIn f n
 unfolding decimalIn
@@ -37,7 +33,7 @@ digits-are (suc f) zero n l h g =
 digits-are (suc f) (suc k) n l h g =
     let m = g (omega arith) in
     (λ i. digits-are f k (n / 10) (omega arith) (omega arith) (λ z. omega arith) i ++ (shown n i ∷ []))
-    ∙ sym (ap (λ (b : Bool). cond b ((48 + n) ∷ []) (decimalIn f (n / 10) ++ ((48 + n % 10) ∷ []))) (le-ltb n 10 (omega (arith, power k))))
+    ∙ sym (ap (λ (b : Bool). cond b ((48 + n) ∷ []) (decimalIn f (n / 10) ++ ((48 + n % 10) ∷ []))) (le-ltb n 10 (omega (arith, one-le-pow k 10 (lit< tt)))))
 
 -- the text of a number is the fewest digits that hold it
 pub decimal-is : (n k : ℕ) → Fewest 10 1 n k → k ≤ 20 → digits 10 k n ≡ decimal n
