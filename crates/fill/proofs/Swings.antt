@@ -11,6 +11,7 @@ use Rattle.grid.specs.Counts.{count}
 use Rattle.grid.specs.Grid.{cells, Sheet}
 use Rattle.grid.proofs.Counts.{count-most}
 use Rattle.spread.specs.Run.{Run, Proper}
+use Rattle.spread.specs.Quiet.{Clear}
 use Rattle.spread.proofs.Keeps.{Weighs}
 use Rattle.spread.proofs.Runs.{run-one, run-some, run-falls}
 use Rattle.grid.proofs.Cells.{sheet-kept}
@@ -24,6 +25,15 @@ outward-proper mark h = omega arith
 pub phase-proper : (b : Bool) → Proper (phaseOf b)
 phase-proper true = omega arith
 phase-proper false = omega arith
+
+-- ---- and each of their labels says one thing
+
+pub outward-clear : (mark : ℕ) → 3 < mark → Clear (outward mark)
+outward-clear mark h = record { proper = outward-proper mark h; apart = omega arith; set-unmarked = omega arith; set-stays = refl; mark-stays = refl }
+
+pub phase-clear : (b : Bool) → Clear (phaseOf b)
+phase-clear true = record { proper = phase-proper true; apart = omega arith; set-unmarked = omega arith; set-stays = refl; mark-stays = refl }
+phase-clear false = record { proper = phase-proper false; apart = omega arith; set-unmarked = omega arith; set-stays = refl; mark-stays = refl }
 
 -- ---- the cells that a phase may still walk have a label below 3
 

@@ -76,7 +76,7 @@ fn turn(labels: &mut [u8], r: Axes, inward: bool) -> usize
     ensures { λ n. ⌜ Run (phaseOf inward) r (now (labels .entry)) (now (labels .exit)) n ⌝ }
 {
     let p = phase_of(inward);
-    spread::run(labels, p, r)
+    scans::run(labels, p, r)
 }
 
 // Phases inward and outward in turn, until one has walked none; answers the number of scans.
@@ -114,7 +114,7 @@ fn fill_flood(labels: &mut [u8], r: Axes) -> Counts
     let len = labels.len();
     seeds::seed(labels, r);
     let p = outward_with(8);
-    let scans = spread::run(labels, p, r);
+    let scans = scans::run(labels, p, r);
     grid::replace(labels, 0, len, 0, 0, 7);
     Counts { scans, left: 0 }
 }
@@ -126,7 +126,7 @@ fn fill_cavities(labels: &mut [u8], r: Axes) -> Counts
     let len = labels.len();
     seeds::seed(labels, r);
     let p = outward_with(4);
-    let first = spread::run(labels, p, r);
+    let first = scans::run(labels, p, r);
     let later = turns(labels, r);
     grid::replace(labels, 0, len, 4, 5, 8);
     grid::replace(labels, 0, len, 3, 3, 8);

@@ -27,7 +27,7 @@ pub record Kept (p : Phase) (r : Axes) (P : List ℕ → Type 0) : Type 0 where
   pub marking : (l : List ℕ) (d : Cell) → InGrid r d → (at r l d ≡ p .pass → ⊥) → at r l d ≡ 8 → P l → P (set l (num r d) (p .mark))
 
 module _ (p : Phase) (r : Axes) (P : List ℕ → Type 0) (k : Kept p r P) where
-  for-keeps : (w : Way) (n : ℕ) (c : Cell) (l : List ℕ) → InGrid r c → n ≤ room r w c → P l → P (walkedFor p r w n c l)
+  pub for-keeps : (w : Way) (n : ℕ) (c : Cell) (l : List ℕ) → InGrid r c → n ≤ room r w c → P l → P (walkedFor p r w n c l)
   unfolding walkedFor
   for-keeps w zero c l h g a = a
   for-keeps w (suc n) c l h g a =

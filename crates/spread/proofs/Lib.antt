@@ -3,3 +3,5 @@ pub mod Turns
 pub mod Keeps
 pub mod Runs
 pub mod Spreads
+pub mod Quiets
+pub mod Trails

@@ -2,8 +2,8 @@
 use mathlib.Core.Bool.{Bool, true, false, cond}
 use mathlib.Core.Path.{_≡_, refl, sym, ap, _∙_}
 use mathlib.Core.List.{List}
-use Prim.Native.Nat.{ℕ, suc, _+_, _*_, _-_, _≤_, _<_, zero-le}
-use native.Mathlib.Nat.{mul-add, sub-zero}
+use Prim.Native.Nat.{ℕ, zero, suc, _+_, _*_, _-_, _≤_, _<_}
+use native.Mathlib.Nat.{mul-add, mul-le-mul-left, zero-add, add-zero, suc-add}
 use native.Mathlib.Omega.{arith}
 use lib.ListN.{length, set}
 use borrow.Author.Tests.{eq-eqb, ne-eqb}
@@ -40,45 +40,91 @@ module _ (p : Phase) (r : Axes) (c : Cell) (l : List ℕ) (w : ℕ) where
   pub visit-none : (at r l c ≡ p .todo → ⊥) → isWalker (p .walkers) (at r l c) ≡ false → visited p r c here ≡ here
   visit-none z e = visit-other z ∙ ap (λ (b : Bool). cond b walks here) e
 
--- ---- a loop that does f at 0, 1, ..., n - 1
+-- ---- f at a, a + 1, ..., in parts
 
-module _ (f : ℕ → State → State) (n i : ℕ) (s : State) where
-  turn-on : i < n → inTurn f (n - i) i s ≡ inTurn f (n - (i + 1)) (i + 1) (f i s)
-  unfolding inTurn
-  turn-on h = ap (λ (m : ℕ). inTurn f m i s) (one-more n i h)
-    where
-      one-more : (n i : ℕ) → i < n → n - i ≡ suc (n - (i + 1))
-      one-more n i h = omega arith
+turn-split : (f : ℕ → State → State) (m n a : ℕ) (s : State) → inTurn f (m + n) a s ≡ inTurn f n (a + m) (inTurn f m a s)
+unfolding inTurn
+turn-split f zero n a s = ap (λ (x : ℕ). inTurn f x a s) (zero-add n) ∙ sym (ap (λ (x : ℕ). inTurn f n x s) (add-zero a))
+turn-split f (suc m) n a s =
+    ap (λ (x : ℕ). inTurn f x a s) (suc-add m n)
+    ∙ turn-split f m n (a + 1) (f a s)
+    ∙ ap (λ (x : ℕ). inTurn f n x (inTurn f m (a + 1) (f a s))) (next a m)
+  where
+    next : (a m : ℕ) → a + 1 + m ≡ a + suc m
+    next a m = omega arith
 
-  turn-end : n ≤ i → inTurn f (n - i) i s ≡ s
-  unfolding inTurn
-  turn-end h = ap (λ (m : ℕ). inTurn f m i s) (no-more n i h)
-    where
-      no-more : (n i : ℕ) → n ≤ i → n - i ≡ 0
-      no-more n i h = omega arith
+-- up to i, then from i to n
+pub turn-parts : (f : ℕ → State → State) (a i n : ℕ) (s : State) → a ≤ i → i ≤ n → inTurn f (n - a) a s ≡ inTurn f (n - i) i (inTurn f (i - a) a s)
+turn-parts f a i n s h g =
+    ap (λ (x : ℕ). inTurn f x a s) (parts a i n h g)
+    ∙ turn-split f (i - a) (n - i) a s
+    ∙ ap (λ (x : ℕ). inTurn f (n - i) x (inTurn f (i - a) a s)) (there a i h)
+  where
+    parts : (a i n : ℕ) → a ≤ i → i ≤ n → n - a ≡ i - a + (n - i)
+    parts a i n h g = omega arith
 
--- where it stands at i, with labels l and w cells walked, of which each turn adds at most u
-pub record Turns (r : Axes) (f : ℕ → State → State) (n u : ℕ) (l₀ : List ℕ) (w₀ : ℕ) (l : List ℕ) (w i : ℕ) : Type 0 where
+    there : (a i : ℕ) → a ≤ i → a + (i - a) ≡ i
+    there a i h = omega arith
+
+pub turn-one : (f : ℕ → State → State) (a : ℕ) (s : State) → inTurn f (a + 1 - a) a s ≡ f a s
+unfolding inTurn
+turn-one f a s = ap (λ (x : ℕ). inTurn f x a s) (one a)
+  where
+    one : (a : ℕ) → a + 1 - a ≡ 1
+    one a = omega arith
+
+turn-none : (f : ℕ → State → State) (a : ℕ) (s : State) → inTurn f (a - a) a s ≡ s
+unfolding inTurn
+turn-none f a s = ap (λ (x : ℕ). inTurn f x a s) (none a)
+  where
+    none : (a : ℕ) → a - a ≡ 0
+    none a = omega arith
+
+-- turns that change nothing
+turn-still : (f : ℕ → State → State) (n a : ℕ) (s : State) → ((t : ℕ) → a ≤ t → t < a + n → f t s ≡ s) → inTurn f n a s ≡ s
+unfolding inTurn
+turn-still f zero a s h = refl
+turn-still f (suc n) a s h = ap (inTurn f n (a + 1)) (h a (omega arith) (omega arith)) ∙ turn-still f n (a + 1) s (λ t u v. h t (omega arith) (omega arith))
+
+pub turn-idle : (f : ℕ → State → State) (a b : ℕ) (s : State) → ((t : ℕ) → a ≤ t → t < b → f t s ≡ s) → inTurn f (b - a) a s ≡ s
+turn-idle f a b s h = turn-still f (b - a) a s (λ t u v. h t u (omega arith))
+
+-- ---- where a loop over turns a, a + 1, ..., n - 1 stands before turn i, with labels l and w cells walked, of which each turn adds at most u
+pub record Turns (r : Axes) (f : ℕ → State → State) (a n u : ℕ) (l₀ : List ℕ) (w₀ : ℕ) (l : List ℕ) (w i : ℕ) : Type 0 where
+  pub at-least : a ≤ i
   pub at-most : i ≤ n
   pub sheet : Sheet r l
   pub same : length l ≡ length l₀
-  pub few : w ≤ w₀ + u * i
-  pub rest : inTurn f (n - i) i (record { labels = l; walked = w }) ≡ inTurn f n 0 (record { labels = l₀; walked = w₀ })
+  pub few : w + u * a ≤ w₀ + u * i
+  pub rest : inTurn f (n - i) i (record { labels = l; walked = w }) ≡ inTurn f (n - a) a (record { labels = l₀; walked = w₀ })
 
-module _ (r : Axes) (f : ℕ → State → State) (n u : ℕ) (l₀ : List ℕ) (w₀ : ℕ) where
-  pub turns-none : Sheet r l₀ → Turns r f n u l₀ w₀ l₀ w₀ 0
-  turns-none h = record { at-most = zero-le; sheet = h; same = refl; few = omega arith; rest = ap (λ (m : ℕ). inTurn f m 0 (record { labels = l₀; walked = w₀ })) (sub-zero n) }
+module _ (r : Axes) (f : ℕ → State → State) (a n u : ℕ) (l₀ : List ℕ) (w₀ : ℕ) where
+  pub turns-none : a ≤ n → Sheet r l₀ → Turns r f a n u l₀ w₀ l₀ w₀ a
+  turns-none g h = record { at-least = omega arith; at-most = g; sheet = h; same = refl; few = omega arith; rest = refl }
 
-  pub turns-more : (l m : List ℕ) (w v i : ℕ) → Turns r f n u l₀ w₀ l w i → i < n → length m ≡ length l → v ≤ w + u
-      → record { labels = m; walked = v } ≡ f i (record { labels = l; walked = w }) → Turns r f n u l₀ w₀ m v (i + 1)
-  turns-more l m w v i t h e g q =
+  -- from i to j
+  pub turns-on : (l m : List ℕ) (w v i j : ℕ) → Turns r f a n u l₀ w₀ l w i → i ≤ j → j ≤ n → length m ≡ length l → v + u * i ≤ w + u * j
+      → record { labels = m; walked = v } ≡ inTurn f (j - i) i (record { labels = l; walked = w }) → Turns r f a n u l₀ w₀ m v j
+  turns-on l m w v i j t h g e b q =
       record {
-        at-most = omega arith;
+        at-least = omega (arith, t .at-least);
+        at-most = g;
         sheet = sheet-kept r l m e (t .sheet);
         same = e ∙ t .same;
-        few = omega (arith, t .few, mul-add u i 1);
-        rest = ap (λ (s : State). inTurn f (n - (i + 1)) (i + 1) s) q ∙ sym (turn-on f n i _ h) ∙ t .rest;
+        few = omega (arith, t .few);
+        rest = ap (λ (s : State). inTurn f (n - j) j s) q ∙ sym (turn-parts f i j n (record { labels = l; walked = w }) h g) ∙ t .rest;
       }
 
-  pub turns-all : (l : List ℕ) (w i : ℕ) → Turns r f n u l₀ w₀ l w i → n ≤ i → record { labels = l; walked = w } ≡ inTurn f n 0 (record { labels = l₀; walked = w₀ })
-  turns-all l w i t h = sym (turn-end f n i _ h) ∙ t .rest
+  -- one turn
+  pub turns-more : (l m : List ℕ) (w v i : ℕ) → Turns r f a n u l₀ w₀ l w i → i < n → length m ≡ length l → v ≤ w + u
+      → record { labels = m; walked = v } ≡ f i (record { labels = l; walked = w }) → Turns r f a n u l₀ w₀ m v (i + 1)
+  turns-more l m w v i t h e b q = turns-on l m w v i (i + 1) t (omega arith) (omega arith) e (omega (arith, mul-add u i 1)) (q ∙ sym (turn-one f i (record { labels = l; walked = w })))
+
+  -- turns up to j that change nothing
+  pub turns-pass : (l : List ℕ) (w i j : ℕ) → Turns r f a n u l₀ w₀ l w i → i ≤ j → j ≤ n → ((x : ℕ) → i ≤ x → x < j → f x (record { labels = l; walked = w }) ≡ record { labels = l; walked = w }) → Turns r f a n u l₀ w₀ l w j
+  turns-pass l w i j t h g k = turns-on l l w w i j t h g refl (omega (arith, mul-le-mul-left u h)) (sym (turn-idle f i j (record { labels = l; walked = w }) k))
+
+  pub turns-all : (l : List ℕ) (w i : ℕ) → Turns r f a n u l₀ w₀ l w i → n ≤ i → record { labels = l; walked = w } ≡ inTurn f (n - a) a (record { labels = l₀; walked = w₀ })
+  turns-all l w i t h =
+      let e : i ≡ n = omega (arith, t .at-most) in
+      sym (turn-none f n (record { labels = l; walked = w })) ∙ sym (ap (λ (x : ℕ). inTurn f (n - x) x (record { labels = l; walked = w })) e) ∙ t .rest

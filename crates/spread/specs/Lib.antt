@@ -2,3 +2,4 @@ pub mod Scan
 pub mod Run
 pub mod Rays
 pub mod Spread
+pub mod Quiet

@@ -7,12 +7,13 @@ use native.Mathlib.Omega.{arith}
 use lib.ListN.{length}
 use Rattle.grid.proofs.Cells.{cells-max, sheet-kept}
 use Rattle.spread.specs.declared.Phase.{Phase}
-use Rattle.spread.specs.Run.{Run, Proper}
+use Rattle.spread.specs.Run.{Run}
+use Rattle.spread.specs.Quiet.{Clear}
 use Rattle.fill.specs.Phases.{seeded, outward, CavityRun}
 use Rattle.grid.specs.Passes.{becomes}
 use Rattle.fill.proofs.Passes.{surfaces-back}
 use Rattle.grid.proofs.Passes.{within-map}
-use Rattle.fill.proofs.Swings.{outward-proper, cavities-few}
+use Rattle.fill.proofs.Swings.{outward-clear, cavities-few}
 use Rattle.fill.proofs.Meaning.{seeded-size}
 use Rattle.fill.proofs.fill_cavities.Statement.{statement}
 use Rattle.fill.proofs.fill_cavities.Tie as tie
@@ -37,7 +38,7 @@ outward-with-requires : tie.Need-outward-with-requires
 outward-with-requires c κs = search needs
 
 run-requires : tie.Need-run-requires
-run-requires c κs = (sheet-kept _ _ _ (c .before .before .before .before .seed .kept .0) (c .before .before .before .before .before .before .before .pre .0), subst Proper (sym (c .before .outward-with .ensures)) (outward-proper 4 (omega arith)))
+run-requires c κs = (sheet-kept _ _ _ (c .before .before .before .before .seed .kept .0) (c .before .before .before .before .before .before .before .pre .0), subst Clear (sym (c .before .outward-with .ensures)) (outward-clear 4 (omega arith)))
 
 turns-requires : tie.Need-turns-requires
 turns-requires c κs = sheet-kept _ _ _ (c .before .before .before .run .kept .0 ∙ c .before .before .before .before .before .before .before .before .seed .kept .0) (c .before .before .before .before .before .before .before .before .before .before .before .pre .0)

@@ -5,12 +5,13 @@ use mathlib.Core.List.{List}
 use Prim.Native.Nat.{ℕ}
 use native.Mathlib.Omega.{arith}
 use Rattle.spread.specs.declared.Phase.{Phase}
-use Rattle.spread.specs.Run.{Run, Proper}
+use Rattle.spread.specs.Run.{Run}
+use Rattle.spread.specs.Quiet.{Clear}
 use Rattle.grid.proofs.Cells.{sheet-kept}
 use Rattle.fill.specs.Phases.{seeded, FloodRun}
 use Rattle.grid.specs.Passes.{becomes}
 use Rattle.grid.proofs.Passes.{within-map}
-use Rattle.fill.proofs.Swings.{outward-proper}
+use Rattle.fill.proofs.Swings.{outward-clear}
 use Rattle.fill.proofs.Meaning.{flood-left}
 use Rattle.fill.proofs.fill_flood.Statement.{statement}
 use Rattle.fill.proofs.fill_flood.Tie as tie
@@ -22,7 +23,7 @@ outward-with-requires : tie.Need-outward-with-requires
 outward-with-requires c κs = search needs
 
 run-requires : tie.Need-run-requires
-run-requires c κs = (sheet-kept _ _ _ (c .before .before .before .before .seed .kept .0) (c .before .before .before .before .before .before .before .pre .0), subst Proper (sym (c .before .outward-with .ensures)) (outward-proper 8 (omega arith)))
+run-requires c κs = (sheet-kept _ _ _ (c .before .before .before .before .seed .kept .0) (c .before .before .before .before .before .before .before .pre .0), subst Clear (sym (c .before .outward-with .ensures)) (outward-clear 8 (omega arith)))
 
 replace-requires : tie.Need-replace-requires
 replace-requires c κs = (omega arith, omega (arith, c .before .before .before .run .kept .0, c .before .before .before .before .before .before .before .before .seed .kept .0))

@@ -2,8 +2,9 @@
 use borrow.Author.Needs.{needs}
 use mathlib.Core.Path.{sym, subst}
 use Rattle.spread.specs.declared.Phase.{Phase}
-use Rattle.spread.specs.Run.{Run, Proper}
-use Rattle.fill.proofs.Swings.{phase-proper}
+use Rattle.spread.specs.Run.{Run}
+use Rattle.spread.specs.Quiet.{Clear}
+use Rattle.fill.proofs.Swings.{phase-clear}
 use Rattle.fill.proofs.turn.Statement.{statement}
 use Rattle.fill.proofs.turn.Tie as tie
 
@@ -11,7 +12,7 @@ phase-of-requires : tie.Need-phase-of-requires
 phase-of-requires c κs = search needs
 
 run-requires : tie.Need-run-requires
-run-requires c κs = (c .before .before .before .pre, subst Proper (sym (c .before .phase-of .ensures)) (phase-proper (c .before .before .before .args .inward)))
+run-requires c κs = (c .before .before .before .pre, subst Clear (sym (c .before .phase-of .ensures)) (phase-clear (c .before .before .before .args .inward)))
 
 same-length : tie.Need-same-length
 same-length c = search needs

@@ -4,6 +4,7 @@ use native.Mathlib.Omega.{arith}
 use lib.ListN.{length}
 use Rattle.spread.specs.Rays.{Span, walkedBoth}
 use Rattle.spread.proofs.Rays.{span-here, span-up, span-down}
+use Rattle.spread.proofs.Trails.{swept}
 use Rattle.spread.proofs.both_ways.Statement.{statement}
 use Rattle.spread.proofs.both_ways.Tie as tie
 
@@ -33,7 +34,7 @@ same-length c = search needs
 
 returns : tie.Need-returns
 unfolding walkedBoth
-returns c = cc
+returns c = (cc, (swept _ _ _ _ _ _ _ _ (c .before .before .before .before .before .before .before .walk .ensures .1 .1) (c .before .before .walk2 .ensures .1 .1), omega (arith, c .before .before .before .before .before .before .before .walk .ensures .1 .0, c .before .before .before .before .before .before .before .before .at-most-64 .ensures, c .before .before .before .before .before .before .before .before .before .before .before .pre .inside), omega (arith, c .before .before .walk2 .ensures .1 .0, c .before .before .before .at-most-642 .ensures)))
 
 pub both-ways-spec : {M : Type 1} → statement M
 both-ways-spec =

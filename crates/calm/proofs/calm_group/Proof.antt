@@ -1,0 +1,57 @@
+-- `calm::calm_group` meets its contract (`group-covers`). Assumes nothing.
+use mathlib.Core.Bool.{cond}
+use mathlib.Core.Path.{sym, subst}
+use mathlib.Core.List.{List}
+use Prim.Native.Nat.{ℕ}
+use native.Mathlib.Omega.{arith}
+use lib.ListN.{set}
+use Rattle.flags.specs.Flags.{Covers}
+use Rattle.calm.proofs.Calming.{calms-none, group-covers}
+use borrow.Author.Needs.{needs}
+use Rattle.calm.proofs.calm_group.Statement.{statement}
+use Rattle.calm.proofs.calm_group.Tie as tie
+
+place-requires : tie.Need-place-requires
+place-requires c κs = search needs
+
+slice-read-if1 : tie.Need-slice-read-if1
+slice-read-if1 c = search needs
+
+returns : tie.Need-returns
+returns c = let a = c .before .before .before .before .before in (calms-none (a .args .p) (a .pre .0 .1) _ _ _ _ _, (omega arith, a .pre .0 .2))
+
+calm-rows-requires : tie.Need-calm-rows-requires
+calm-rows-requires c κs = search needs
+
+one-if-requires : tie.Need-one-if-requires
+one-if-requires c κs = search needs
+
+slice-write-t : tie.Need-slice-write-t
+slice-write-t c = search needs
+
+same-length : tie.Need-same-length
+same-length c = search needs
+
+same-length-2 : tie.Need-same-length-2
+same-length-2 c = search needs
+
+returns-2 : tie.Need-returns-2
+returns-2 c =
+    let a = c .before .before .before .before .before .before .before .before .before .before in
+    let e = c .before .before .before .calm-rows .ensures in
+    let g = a .pre .1 .0 in
+    (e .0, (omega (arith, e .1 .0, g .ends), subst (λ (v : ℕ). Covers (a .args .p) (a .args .r) (c .before .before .before .calm-rows .last .0) (set (a .args .t .now) (c .before .before .before .before .before .before .before .place .result) v)) (sym (c .one-if .ensures)) (group-covers (a .args .p) (a .pre .0 .1) (a .args .r) _ _ _ _ _ g (a .pre .0 .0 .sound) (a .pre .1 .1) (c .before .before .before .calm-rows .result .acting) (e .0) (a .pre .0 .2) (e .1 .1) (c .before .before .before .before .before .before .before .place .ensures .0) (omega (arith, c .before .before .before .before .before .before .before .place .ensures .1, a .pre .0 .2 .size)))))
+
+pub calm-group-spec : {M : Type 1} → statement M
+calm-group-spec =
+    tie.close
+    (tie.spec
+    place-requires
+    slice-read-if1
+    returns
+    calm-rows-requires
+    one-if-requires
+    slice-write-t
+    same-length
+    same-length-2
+    returns-2)

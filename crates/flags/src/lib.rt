@@ -1,0 +1,61 @@
+// Which cells a scan must visit: a table with a byte for each group of cells, 16 along i and 16 along k, that
+// is not 0 where a cell of the group may act. The cells with i = 0 make groups of their own, since walks from
+// there go far, and the groups after them end where a walk of 64 cells does.
+ghost use mathlib.Core.Path.{_≡_};
+ghost use Prim.Native.Nat.{ℕ, _+_, _*_, _≤_, _<_};
+ghost use lib.ListN.{length};
+ghost use Rattle.flags.specs.Flags.{tableLength, placeAt, Up, Raises};
+
+pub const LENGTH: usize = 69632;
+
+// Where the group of cell (i, j, k) stands in the table.
+pub fn place(i: usize, j: usize, k: usize) -> usize
+    requires { ⌜ (i < 256) × (j < 256) × (k < 256) ⌝ }
+    ensures { λ n. ⌜ (n ≡ placeAt i j k) × (n < tableLength) ⌝ }
+{
+    ((i + 15) / 16 * 16 + k / 16) * 256 + j
+}
+
+// Raises `count` bytes, a stride apart.
+fn raise(t: &mut [u8], from: usize, stride: usize, count: usize)
+    requires { ⌜ (stride ≤ 4096) × (0 < count) × (count ≤ 256) ⌝ }
+    requires { ⌜ (from + count * stride < length (now t) + stride) × (length (now t) ≤ tableLength) ⌝ }
+    ensures { λ _. ⌜ Raises (now (t .entry)) (now (t .exit)) ⌝ }
+    ensures { λ _. ⌜ ((s : ℕ) → s < count → Up (now (t .exit)) (from + s * stride)) ⌝ }
+{
+    let mut n = from;
+    let mut left = count;
+    while 0 < left {
+        t[n] = 1;
+        n += stride;
+        left -= 1;
+    }
+}
+
+// The groups of the cells from `low` to `high` along i, and so along j and along k.
+pub fn raise_i(t: &mut [u8], low: usize, high: usize, j: usize, k: usize)
+    requires { ⌜ (length (now t) ≡ tableLength) × (low ≤ high) × (high < 256) × (j < 256) × (k < 256) ⌝ }
+    ensures { λ _. ⌜ Raises (now (t .entry)) (now (t .exit)) ⌝ }
+    ensures { λ _. ⌜ ((i : ℕ) → low ≤ i → i ≤ high → Up (now (t .exit)) (placeAt i j k)) ⌝ }
+{
+    let n = place(low, j, k);
+    raise(t, n, 4096, (high + 15) / 16 - (low + 15) / 16 + 1);
+}
+
+pub fn raise_j(t: &mut [u8], i: usize, low: usize, high: usize, k: usize)
+    requires { ⌜ (length (now t) ≡ tableLength) × (low ≤ high) × (high < 256) × (i < 256) × (k < 256) ⌝ }
+    ensures { λ _. ⌜ Raises (now (t .entry)) (now (t .exit)) ⌝ }
+    ensures { λ _. ⌜ ((j : ℕ) → low ≤ j → j ≤ high → Up (now (t .exit)) (placeAt i j k)) ⌝ }
+{
+    let n = place(i, low, k);
+    raise(t, n, 1, high - low + 1);
+}
+
+pub fn raise_k(t: &mut [u8], i: usize, j: usize, low: usize, high: usize)
+    requires { ⌜ (length (now t) ≡ tableLength) × (low ≤ high) × (high < 256) × (i < 256) × (j < 256) ⌝ }
+    ensures { λ _. ⌜ Raises (now (t .entry)) (now (t .exit)) ⌝ }
+    ensures { λ _. ⌜ ((k : ℕ) → low ≤ k → k ≤ high → Up (now (t .exit)) (placeAt i j k)) ⌝ }
+{
+    let n = place(i, j, low);
+    raise(t, n, 256, high / 16 - low / 16 + 1);
+}

@@ -1,0 +1,107 @@
+-- `turns::visit_part` meets its contract: a visit in each turn (`Turns`), at the number of the turn's cell. Assumes nothing.
+use mathlib.Core.Path.{_≡_, refl, _∙_}
+use Prim.Native.Nat.{ℕ, _+_, _*_, _-_, _≤_, _<_}
+use native.Mathlib.Nat.{add-mul, one-mul, mul-le-mul}
+use native.Mathlib.Omega.{arith}
+use lib.ListN.{length}
+use Rattle.grid.specs.declared.Axes.{Axes}
+use Rattle.grid.specs.Grid.{Sound}
+use Rattle.grid.proofs.Cells.{Terms, terms}
+use Rattle.spread.specs.Scan.{visited}
+use Rattle.spread.proofs.Turns.{Turns, turns-none, turns-more, turns-all}
+use Rattle.flags.specs.Flags.{Covers}
+use Rattle.turns.proofs.visit_part.Statement.{statement}
+use Rattle.turns.proofs.visit_part.Tie as tie
+
+abbrev Inv-loop : tie.InvT-loop
+Inv-loop l₀ t₀ p r i j from to before layer walked₀ at₀ k₀ l t walked at k = Turns r (λ k. visited p r (record { i = i; j = j; k = k })) from to 1 l₀ before l walked k × (at ≡ i + j * r .r0 + k * (r .r0 * r .r1)) × Covers p r l t × (length t ≡ length t₀)
+
+abbrev μ-loop : tie.MeasureT-loop
+μ-loop l₀ t₀ p r i j from to before layer walked₀ at₀ k₀ l t walked at k = to - k
+
+-- what the numbers of a row are made of
+row-terms : (r : Axes) (i j : ℕ) → Sound r → i < r .r0 → j < r .r1 → Terms r (record { i = i; j = j; k = 0 })
+row-terms r i j s p q = terms r (record { i = i; j = j; k = 0 }) s (record { i-in = p; j-in = q; k-in = s .axis2 .some })
+
+of-row : (c : tie.Start Inv-loop μ-loop) → Terms (c .args .r) (record { i = c .args .i; j = c .args .j; k = 0 })
+of-row c = row-terms (c .args .r) (c .args .i) (c .args .j) (c .pre .0 .0 .sound) (c .pre .1 .0) (c .pre .1 .1)
+
+-- and of a layer up to 256
+layers : (c : tie.Start Inv-loop μ-loop) (k : ℕ) → k ≤ c .args .to → k * (c .args .r .r0 * c .args .r .r1) ≤ 16777216
+layers c k h = mul-le-mul (small (c .pre .0 .0 .sound .axis2 .most) (c .pre .1 .3) h) (of-row c .r01)
+  where
+    small : {a b d : ℕ} → a ≤ 256 → b ≤ a → d ≤ b → d ≤ 256
+    small x y z = omega arith
+
+mul-layer : tie.Need-mul-layer Inv-loop μ-loop
+mul-layer c = omega (arith, of-row (c .before .before .before) .r01)
+
+mul-at : tie.Need-mul-at Inv-loop μ-loop
+mul-at c = omega (arith, of-row (c .before .before .before .before) .jr0)
+
+add-at : tie.Need-add-at Inv-loop μ-loop
+add-at c = omega (arith, of-row (c .before .before .before .before) .jr0, c .before .before .before .before .pre .0 .0 .sound .axis0 .most, c .before .before .before .before .pre .1 .0)
+
+mul-at-2 : tie.Need-mul-at-2 Inv-loop μ-loop
+mul-at-2 c = omega (arith, layers (c .before .before .before .before) (c .before .before .before .before .args .from) (c .before .before .before .before .pre .1 .2))
+
+add-at-2 : tie.Need-add-at-2 Inv-loop μ-loop
+add-at-2 c = omega (arith, layers (c .before .before .before .before) (c .before .before .before .before .args .from) (c .before .before .before .before .pre .1 .2), of-row (c .before .before .before .before) .jr0, c .before .before .before .before .pre .0 .0 .sound .axis0 .most, c .before .before .before .before .pre .1 .0)
+
+loop-holds : tie.Need-loop-holds Inv-loop μ-loop
+loop-holds c = (turns-none _ _ _ _ _ _ _ (c .before .before .before .before .pre .1 .2) (c .before .before .before .before .pre .0 .0), refl, c .before .before .before .before .pre .0 .2, refl)
+
+visit-requires : tie.Need-visit-requires Inv-loop μ-loop
+visit-requires c κs =
+    let a = c .before .before .before .before .before .before .before .before in
+    let t = c .before .before .before .loop .inv .0 in
+    ((t .sheet, a .pre .0 .1, c .before .before .before .loop .inv .2), (record { i-in = a .pre .1 .0; j-in = a .pre .1 .1; k-in = omega (arith, c .before .before .loop-test .taken, a .pre .1 .3) }, c .before .before .before .loop .inv .1, omega (arith, t .few, t .at-most, t .sheet .sound .axis2 .most, a .pre .1 .3, a .pre .1 .4)))
+
+add-at-3 : tie.Need-add-at-3 Inv-loop μ-loop
+add-at-3 c = omega (arith, c .before .before .before .before .before .before .before .before .loop .inv .1, layers (c .before .before .before .before .before .before .before .before .before .before .before .before .before) (c .before .before .before .before .before .before .before .before .loop .k) (c .before .before .before .before .before .before .before .before .loop .inv .0 .at-most), of-row (c .before .before .before .before .before .before .before .before .before .before .before .before .before) .jr0, of-row (c .before .before .before .before .before .before .before .before .before .before .before .before .before) .r01, c .before .before .before .before .before .before .before .before .before .before .before .before .before .pre .0 .0 .sound .axis0 .most, c .before .before .before .before .before .before .before .before .before .before .before .before .before .pre .1 .0)
+
+add-k : tie.Need-add-k Inv-loop μ-loop
+add-k c = omega (arith, c .before .before .before .before .before .before .before .before .loop .inv .0 .at-most, c .before .before .before .before .before .before .before .before .before .before .before .before .before .pre .1 .3, c .before .before .before .before .before .before .before .before .before .before .before .before .before .pre .0 .0 .sound .axis2 .most)
+
+loop-less : tie.Need-loop-less Inv-loop μ-loop
+loop-less c = omega (arith, c .before .before .before .before .before .before .before .loop-test .taken)
+
+loop-again : tie.Need-loop-again Inv-loop μ-loop
+loop-again c =
+    let a = c .before .before .before .before .before .before .before .before .before .before .before .before .before .args in
+    let k = c .before .before .before .before .before .before .before .before .loop .k in (
+      turns-more _ _ _ _ _ _ _ _ _ _ _ _ (c .before .before .before .before .before .before .before .before .loop .inv .0) (c .before .before .before .before .before .before .before .loop-test .taken) (c .before .before .before .before .visit .kept .0) (c .before .before .before .before .visit .ensures .1 .0) (c .before .before .before .before .visit .ensures .0),
+      omega (arith, c .before .before .before .before .before .before .before .before .loop .inv .1, add-mul k 1 (a .r .r0 * a .r .r1), one-mul (a .r .r0 * a .r .r1)),
+      c .before .before .before .before .visit .ensures .1 .1,
+      c .before .before .before .before .visit .kept .1 .0 ∙ c .before .before .before .before .before .before .before .before .loop .inv .3,
+    )
+
+same-length : tie.Need-same-length Inv-loop μ-loop
+same-length c = c .before .loop .inv .0 .same
+
+same-length-2 : tie.Need-same-length-2 Inv-loop μ-loop
+same-length-2 c = c .before .loop .inv .3
+
+returns : tie.Need-returns Inv-loop μ-loop
+returns c = let t = c .before .loop .inv .0 in (turns-all _ _ _ _ _ _ _ _ _ _ t (c .loop-test .left), (omega (arith, t .few, t .at-most), c .before .loop .inv .2))
+
+pub visit-part-spec : {M : Type 1} → statement M
+visit-part-spec =
+    tie.close
+    (tie.spec
+    Inv-loop
+    μ-loop
+    mul-layer
+    mul-at
+    add-at
+    mul-at-2
+    add-at-2
+    loop-holds
+    visit-requires
+    add-at-3
+    add-k
+    loop-less
+    loop-again
+    same-length
+    same-length-2
+    returns)
