@@ -13,7 +13,7 @@
 //! Byte n of an output is n % 97 + 100 before the call.
 
 use lifted::marks::{changed, down, up, FAR};
-use lifted::models::program::{summarize, text, Said};
+use lifted::models::program::{head, point, stream, summarize, text, triangle, Said};
 use lifted::models::sizing::SMALLEST;
 use lifted::shapes::Random;
 use lifted::stored::{self, Families, Stored};
@@ -90,30 +90,12 @@ fn damaged(input: &Vec<u8>) -> Stored {
 
 // ---- streams
 
-fn head(way: u8, mode: u8, bits: u32) -> Vec<u8> {
-    [&[b'V', b'h', way, mode], &bits.to_le_bytes()[..]].concat()
-}
-
 fn by_size(mode: u8, size: f32) -> Vec<u8> {
     head(0, mode, size.to_bits())
 }
 
 fn by_resolution(mode: u8, r: u32) -> Vec<u8> {
     head(1, mode, r)
-}
-
-fn point(p: [f32; 3]) -> Vec<u8> {
-    [b"Vp".to_vec(), stored::bytes(&p.map(f32::to_bits))].concat()
-}
-
-fn triangle(t: [u32; 3]) -> Vec<u8> {
-    [b"Vt".to_vec(), stored::bytes(&t)].concat()
-}
-
-fn stream(head: Vec<u8>, points: &[[f32; 3]], triangles: &[[u32; 3]]) -> Vec<u8> {
-    let points = points.iter().flat_map(|p| point(*p));
-    let triangles = triangles.iter().flat_map(|t| triangle(*t));
-    head.into_iter().chain(points).chain(triangles).chain(*b"Vz").collect()
 }
 
 /// Points and triangles.

@@ -6,6 +6,7 @@ use super::Fault;
 use crate::fill::{self, FillMode};
 use crate::marks::{self, Case, FAR};
 use crate::sizing::VoxelizedVolume;
+use crate::stored;
 
 #[derive(Clone, Copy)]
 enum Way {
@@ -135,4 +136,24 @@ pub fn text(said: &Said) -> String {
             "cells {r0} {r1} {r2}\noutside {outside}\ninside {inside}\nsurface {surface}\nleft {left}\nscans {scans}\n"
         ),
     }
+}
+
+// ---- streams
+
+pub fn head(way: u8, mode: u8, bits: u32) -> Vec<u8> {
+    [&[b'V', b'h', way, mode], &bits.to_le_bytes()[..]].concat()
+}
+
+pub fn point(p: [f32; 3]) -> Vec<u8> {
+    [b"Vp".to_vec(), stored::bytes(&p.map(f32::to_bits))].concat()
+}
+
+pub fn triangle(t: [u32; 3]) -> Vec<u8> {
+    [b"Vt".to_vec(), stored::bytes(&t)].concat()
+}
+
+pub fn stream(head: Vec<u8>, points: &[[f32; 3]], triangles: &[[u32; 3]]) -> Vec<u8> {
+    let points = points.iter().flat_map(|p| point(*p));
+    let triangles = triangles.iter().flat_map(|t| triangle(*t));
+    head.into_iter().chain(points).chain(triangles).chain(*b"Vz").collect()
 }
