@@ -120,11 +120,13 @@ fn step(tally: &mut Tally, axes: [u32; 3], labels: &mut Vec<u8>, e: Edit, fresh:
     labels.copy_from_slice(lent.read());
 }
 
-/// A long sequence of edits of a fill. On a large grid only every eighth map, and the last, is filled afresh.
+/// A long sequence of edits of a fill, shorter on a large grid, where only every eighth map, and the last, is filled
+/// afresh.
 fn sequence(c: &mut Case) {
     let marks = maps::marks(&mut c.rng, c.size);
     let (axes, mut labels) = (marks.axes, fill::lifted(marks.axes, &marks.labels, fill::FLOOD).labels);
-    let (edits, seldom) = (c.rng.pick(&[20, 100, 400]), if labels.len() > 4000 { 8 } else { 1 });
+    let (most, seldom) = (4 + 10_000_000 / labels.len(), if labels.len() > 4000 { 8 } else { 1 });
+    let edits = c.rng.pick(&[20, 100, 400]).min(most);
     for n in 1..=edits {
         let e = random_edit(&mut c.rng, axes, &labels);
         step(c.tally, axes, &mut labels, e, n % seldom == 0 || n == edits);

@@ -40,6 +40,8 @@ pub fn case(c: &mut Case) {
         (0..1 << length).for_each(|n| compare(c.tally, axes, &row(&[0, 8], length, n)));
         return;
     }
-    let marks = maps::marks(&mut c.rng, c.size);
-    compare(c.tally, marks.axes, &marks.labels);
+    for _ in 0..4 {
+        let marks = maps::marks(&mut c.rng, c.size);
+        compare(c.tally, marks.axes, &marks.labels);
+    }
 }

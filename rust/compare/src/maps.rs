@@ -36,29 +36,42 @@ fn laid(rng: &mut Random, axes: [u32; 3], mut surface: impl FnMut(Cell) -> bool)
 
 /// Any density on any grid of up to so many cells a side.
 fn scattered(rng: &mut Random, size: usize) -> Marks {
-    let most = rng.pick(&[3, 5, 9, 20, size]).min(size);
+    let most = if rng.one_in(16) { size } else { rng.pick(&[3, 5, 9, 20, 40]).min(size) };
     let axes = [0; 3].map(|_| rng.within(1, most) as u32);
     let density = rng.pick(&[0, 3, 10, 60, 120, 200, 300, 400, 500, 600, 700, 850, 950, 1000]);
     let mut labels = Random::of(rng.bits() as u64, 0, 0);
     laid(rng, axes, |_| labels.below(1000) < density)
 }
 
-/// A long axis, about the 64 cells that a walk goes and multiples of it, with few surface cells.
+/// Lengths about the 64 cells that a walk goes, and about multiples of it.
+const LONG: [u32; 18] = [1, 2, 62, 63, 64, 65, 66, 67, 127, 128, 129, 130, 131, 192, 193, 194, 255, 256];
+
+/// A long axis, with few surface cells.
 fn long(rng: &mut Random) -> Marks {
-    let long = rng.pick(&[1, 2, 62, 63, 64, 65, 66, 67, 127, 128, 129, 130, 131, 192, 193, 194, 255, 256]);
     let wide = if rng.one_in(4) { rng.within(62, 67) } else { rng.within(1, 5) };
-    let axes = [long, wide as u32, rng.within(1, 5) as u32];
+    let axes = [rng.pick(&LONG), wide as u32, rng.within(1, 5) as u32];
     let density = rng.pick(&[0, 5, 20, 100, 400]);
     let mut labels = Random::of(rng.bits() as u64, 0, 0);
-    let walled = rng.one_in(2);
-    let on_wall = |at: Cell| walled && (1..3).any(|a| at[a] == 0 || at[a] + 1 == axes[a]) && at[0] % 65 != 64;
-    laid(rng, axes, |at| on_wall(at) || labels.below(1000) < density)
+    laid(rng, axes, |_| labels.below(1000) < density)
+}
+
+/// A long tube, each end closed or open, with up to two plugs in it and up to two holes in its wall.
+fn tube(rng: &mut Random) -> Marks {
+    let axes = [rng.pick(&LONG), rng.within(3, 4) as u32, rng.within(3, 4) as u32];
+    let (closed, odd) = ([rng.one_in(2), rng.one_in(2)], rng.below(3));
+    let changed = [0; 4].map(|_| axes.map(|r| rng.below(r as usize) as u32));
+    let wall = |at: Cell| {
+        let beside = (1..3).any(|a| at[a] == 0 || at[a] + 1 == axes[a]);
+        beside || closed[0] && at[0] == 0 || closed[1] && at[0] + 1 == axes[0]
+    };
+    laid(rng, axes, |at| wall(at) != changed[..2 * odd].contains(&at))
 }
 
 /// A solid block with a corridor through it, to and fro or in a spiral, some plugs in it and some entrances.
 fn corridor(rng: &mut Random, size: usize) -> Marks {
-    let side = 5 + 2 * rng.below(size.clamp(8, 34) / 2 - 3) as u32;
     let flat = rng.one_in(2);
+    let most = if flat { 74 } else { size.clamp(8, 34) };
+    let side = 5 + 2 * rng.below(most / 2 - 3) as u32;
     let (axes, path) = if flat { ([side, side, 3], spiral(side as i32)) } else { ([side; 3], serpentine(side)) };
     let mut open = vec![false; axes.iter().product::<u32>() as usize];
     let number = |at: Cell| (at[0] + axes[0] * (at[1] + axes[1] * at[2])) as usize;
@@ -97,10 +110,11 @@ fn layered(rng: &mut Random, size: usize) -> Marks {
 }
 
 pub fn marks(rng: &mut Random, size: usize) -> Marks {
-    match rng.below(8) {
+    match rng.below(9) {
         0..=2 => scattered(rng, size),
         3 => long(rng),
-        4 => corridor(rng, size),
+        4 => tube(rng),
+        5 => corridor(rng, size),
         _ => layered(rng, size),
     }
 }

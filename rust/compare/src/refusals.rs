@@ -71,7 +71,6 @@ fn off_the_grid(rng: &mut Random, c: &mut marks::Case) {
 fn damage_mesh(rng: &mut Random, c: &mut marks::Case) {
     match rng.below(9) {
         0 => damage_length(rng, &mut c.points, 1.0),
-        8 => off_the_grid(rng, c),
         1 => damage_length(rng, &mut c.triangles, 0),
         2 | 3 => damage_one(rng, &mut c.points),
         4 => {
@@ -80,6 +79,7 @@ fn damage_mesh(rng: &mut Random, c: &mut marks::Case) {
         }
         5 => damage_placement(rng, &mut c.origin, &mut c.scale, &mut c.reciprocal),
         6 => damage_axes(rng, &mut c.axes),
+        7 => off_the_grid(rng, c),
         _ => c.length = rng.pick(&[c.length + 1, c.length - 1, 0, 2 * c.length]),
     }
 }

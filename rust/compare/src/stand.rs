@@ -134,6 +134,7 @@ pub fn compare(tally: &mut Tally, kind: Kind, c: &marks::Case, labels: &[u8], in
 #[cfg(test)]
 mod tests {
     use super::*;
+    use crate::marking::mark;
 
     /// One triangle that is a point, in the middle of a row of three cells: cells 0 and 2 are off by more than rounding.
     #[test]
@@ -157,5 +158,17 @@ mod tests {
         assert!(found.right && found.explained && found.by_vertex[&1]);
         assert_eq!(found.marks(2), [8, 8]);
         assert!(!compare_pairs(&c, &[(0, 0)], &[(0, 0), (1, 0)]).right);
+    }
+
+    /// A vertex that 01 rounds away from a corner of a cell: the stand-in finds contact there, and may.
+    #[test]
+    fn a_lost_contact_is_explained() {
+        let c = marks::single([[0.001953125, 0.998046875, 0.0], [1.0, 0.0, 0.0], [1.0, 1.0, 0.0]], [3, 3, 3]);
+        let surface = |labels: &[u8]| (0..27).filter(|&n| labels[n] == 8).collect::<Vec<_>>();
+        let (theirs, their_pairs) = lifted_marks(&c);
+        let ours = mark(&mut Tally::default(), &c, true).unwrap();
+        assert_eq!((surface(&ours), surface(&theirs)), (vec![1, 3, 4], vec![0, 1, 3, 4]));
+        let found = compare_pairs(&c, &our_pairs(&c, &ours, 4), &their_pairs);
+        assert!(found.right && found.explained && found.by_vertex[&0]);
     }
 }
