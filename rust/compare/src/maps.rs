@@ -1,7 +1,11 @@
 //! Maps of cells to be filled, edited and listed: labels 8 for surface and 0 for any other cell.
 
+use crate::meshes;
 use crate::random::Random;
+use lifted::fill::VoxelizedVolume;
+use lifted::models::sizing::vectors;
 use lifted::shapes::{serpentine, spiral, Cell};
+use lifted::sizing;
 
 #[derive(Clone)]
 pub struct Marks {
@@ -109,12 +113,23 @@ fn layered(rng: &mut Random, size: usize) -> Marks {
     laid(rng, axes, |at| ring(at) % (gap + thick) >= gap && chance.below(1000) >= holes)
 }
 
+/// The steel of a vessel, as the lifted marking marks it.
+fn steel(rng: &mut Random, size: usize) -> Marks {
+    let (_, (points, triangles)) = meshes::vessel(rng, 24);
+    let (points, resolution) = (vectors(&points), rng.within(6, size.clamp(6, 48)) as u32);
+    let triangles: Vec<[u32; 3]> = triangles.chunks(3).map(|t| [t[0], t[1], t[2]]).collect();
+    let mut volume = VoxelizedVolume::from_sizing(sizing::VoxelizedVolume::voxelize(&points, resolution));
+    volume.do_mark(&points, &triangles, false);
+    Marks { axes: volume.resolution, labels: volume.values.iter().map(|v| v.number()).collect() }
+}
+
 pub fn marks(rng: &mut Random, size: usize) -> Marks {
-    match rng.below(9) {
+    match rng.below(10) {
         0..=2 => scattered(rng, size),
         3 => long(rng),
         4 => tube(rng),
         5 => corridor(rng, size),
+        6 => steel(rng, size),
         _ => layered(rng, size),
     }
 }
