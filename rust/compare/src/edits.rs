@@ -57,7 +57,7 @@ fn every(tally: &mut Tally, axes: [u32; 3]) {
     }
 }
 
-/// A random edit: mostly one that is not refused, at a surface cell or beside one.
+/// A random edit: mostly one that is not refused, at a surface cell as often as at another.
 fn random_edit(rng: &mut Random, axes: [u32; 3], labels: &[u8]) -> Edit {
     let near = rng.one_in(2);
     let mut n = rng.below(labels.len());
