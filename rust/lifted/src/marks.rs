@@ -39,7 +39,12 @@ pub fn cell(q: i128) -> i128 {
 }
 
 pub fn triangles(c: &Case) -> Vec<Triangle> {
-    let coordinate = |v: u32, a: usize| parts((c.points[3 * v as usize + a] - c.origin[a]) * c.reciprocal);
+    vertices(c, parts)
+}
+
+/// The triangles with coordinates made of each t in some way.
+pub fn vertices<T>(c: &Case, of: impl Fn(f32) -> T) -> Vec<[[T; 3]; 3]> {
+    let coordinate = |v: u32, a: usize| of((c.points[3 * v as usize + a] - c.origin[a]) * c.reciprocal);
     c.triangles.chunks(3).map(|t| [0, 1, 2].map(|n| [0, 1, 2].map(|a| coordinate(t[n], a)))).collect()
 }
 
@@ -86,7 +91,12 @@ pub fn span(direction: &Triple, points: &[Triple]) -> (i128, i128) {
 
 /// How far apart triangle and cell are along each direction: above 0 it separates them, 0 is contact.
 pub fn gaps(t: &Triangle, at: Triple) -> [i128; 13] {
-    let corner = |n: usize| [0, 1, 2].map(|a| 256 * at[a] + if n >> a & 1 == 0 { -128 } else { 128 });
+    gaps_about(t, at, 256, 128)
+}
+
+/// The same with so many units to a cell's side, for a cube about the cell's centre that reaches so far to each side.
+pub fn gaps_about(t: &Triangle, at: Triple, side: i128, reach: i128) -> [i128; 13] {
+    let corner = |n: usize| [0, 1, 2].map(|a| side * at[a] + if n >> a & 1 == 0 { -reach } else { reach });
     let cube: [Triple; 8] = std::array::from_fn(corner);
     directions(t).map(|d| {
         let ((tl, th), (cl, ch)) = (span(&d, t), span(&d, &cube));

@@ -3,19 +3,11 @@
 //! 9 and 11 answer. Run it in rust/lifted: `cargo run --offline --bin base_vectors -- ../../crates/base_vectors`.
 //! The random cases come from a fixed seed.
 
-use lifted::sizing::{Vector, VoxelizedVolume};
+use lifted::marks::{down, up, FAR as MOST};
+use lifted::models::sizing::{by_resolution, by_size, SMALLEST as LEAST};
+use lifted::models::Fault;
+use lifted::sizing::VoxelizedVolume;
 use std::fmt::Write as _;
-
-const LEAST: f32 = 1.0 / 1024.0;
-const MOST: f32 = 1048576.0;
-
-fn up(x: f32) -> f32 {
-    f32::from_bits(x.to_bits() + 1)
-}
-
-fn down(x: f32) -> f32 {
-    f32::from_bits(x.to_bits() - 1)
-}
 
 /// Two spans of labels: low, high, low, high.
 type Set = [u8; 4];
@@ -30,29 +22,15 @@ enum Case {
     Labels(Vec<u8>, Set),
 }
 
-fn refused(number: u32, place: usize) -> String {
+fn refused(number: usize, place: usize) -> String {
     format!("refused {number} {place} \n")
 }
 
-fn vectors(ps: &[f32]) -> Vec<Vector> {
-    ps.chunks(3).map(|c| Vector { x: c[0], y: c[1], z: c[2] }).collect()
-}
-
-fn points_fault(ps: &[f32]) -> Option<String> {
-    if ps.len() % 3 != 0 || ps.len() > 3 * 65536 {
-        return Some(refused(1, 0));
-    }
-    if ps.is_empty() {
-        return Some(refused(2, 0));
-    }
-    // a NaN is not at most anything
-    ps.iter().position(|x| !(x.abs() <= MOST)).map(|i| refused(3, i))
-}
-
-fn grid(v: VoxelizedVolume) -> String {
-    if let Some(a) = v.resolution.iter().position(|&r| r == 0 || r > 256) {
-        return refused(8, a);
-    }
+fn grid(sized: Result<VoxelizedVolume, Fault>) -> String {
+    let v = match sized {
+        Err((number, place)) => return refused(number, place),
+        Ok(v) => v,
+    };
     let [a, b, c] = v.resolution;
     let o = v.origin;
     let mut line = format!("grid {a} {b} {c} ");
@@ -60,33 +38,6 @@ fn grid(v: VoxelizedVolume) -> String {
         write!(line, "{:08x} ", x.to_bits()).unwrap();
     }
     line + "\n"
-}
-
-fn by_size(ps: &[f32], size: f32) -> String {
-    if let Some(refusal) = points_fault(ps) {
-        return refusal;
-    }
-    if !(LEAST <= size && size <= MOST) {
-        return refused(5, 0);
-    }
-    grid(VoxelizedVolume::with_voxel_size(&vectors(ps), size))
-}
-
-fn by_resolution(ps: &[f32], r: u32) -> String {
-    if let Some(refusal) = points_fault(ps) {
-        return refusal;
-    }
-    if !(2..=254).contains(&r) {
-        return refused(6, 0);
-    }
-    let extent = |a: usize| {
-        let (lo, hi) = ps.iter().skip(a).step_by(3).fold((ps[a], ps[a]), |(l, h), &p| (l.min(p), h.max(p)));
-        hi - lo
-    };
-    if extent(0).max(extent(1)).max(extent(2)) < LEAST {
-        return refused(7, 0);
-    }
-    grid(VoxelizedVolume::voxelize(&vectors(ps), r))
 }
 
 /// The three roundings. In f64 the products and the sum are exact where they decide: a product with 256 is,
@@ -126,10 +77,10 @@ fn labels_fault(labels: &[u8], set: Set) -> String {
 
 fn answer(c: &Case) -> String {
     match c {
-        Case::Size(ps, size) => by_size(ps, *size),
-        Case::Resolution(ps, r) => by_resolution(ps, *r),
+        Case::Size(ps, size) => grid(by_size(ps, *size)),
+        Case::Resolution(ps, r) => grid(by_resolution(ps, *r)),
         Case::Rounding(x) => rounding(*x),
-        Case::Many(n) => by_size(&vec![1.0; *n as usize], 1.0),
+        Case::Many(n) => grid(by_size(&vec![1.0; *n as usize], 1.0)),
         Case::Grid(r, len) => grid_fault(*r, *len),
         Case::Labels(l, set) => labels_fault(l, *set),
     }

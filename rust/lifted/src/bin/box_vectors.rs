@@ -13,36 +13,12 @@
 //! neither. The cases chosen by hand come first, then random ones from a fixed seed. How many there are of each family
 //! and of each answer is printed.
 
-use lifted::fill::VoxelizedVolume;
-use lifted::list::label_value;
 use lifted::marks::{changed, down, up, FAR, LEAST, MOST};
+use lifted::models::boxes::{boxed, refusal, Case};
 use lifted::shapes::Random;
-use lifted::sizing::Vector;
 use lifted::stored::{self, bits, blank, blank_floats, bytes, shown, shown_floats, sum, written, Row, Stored};
 
-#[derive(Clone)]
-struct Case {
-    axes: [u32; 3],
-    origin: [f32; 3],
-    scale: f32,
-    reciprocal: f32,
-    asked: u8,
-    labels: Vec<u8>,
-    points: usize,
-    triangles: usize,
-}
-
 // ---- what is to be answered
-
-/// The crate's boxes, their triangles 8 points back.
-fn boxes(c: &Case) -> (Vec<u32>, Vec<u32>) {
-    let [x, y, z] = c.origin;
-    let labels = VoxelizedVolume::from_labels(c.axes, &c.labels, &[]);
-    let volume = VoxelizedVolume { origin: Vector::new(x, y, z), scale: c.scale, ..labels };
-    let (points, triangles) = volume.to_trimesh(label_value(c.asked));
-    let back = |t: &[u32; 3]| t.map(|n| n - 8);
-    (points.iter().flat_map(|p| bits(&[p.x, p.y, p.z])).collect(), triangles.iter().flat_map(back).collect())
-}
 
 /// Document 01's boxes: along x corners 1, 2, 5 and 6 lie high, along y 2, 3, 6 and 7, along z 4 to 7.
 fn model(c: &Case) -> (Vec<u32>, Vec<u32>) {
@@ -60,27 +36,12 @@ fn model(c: &Case) -> (Vec<u32>, Vec<u32>) {
     (bits(&points), triangles.collect())
 }
 
-fn refusal(c: &Case) -> Option<(usize, usize)> {
-    let whole = |fault: bool| fault.then_some(0);
-    let place = |number| match number {
-        3 => c.origin.iter().position(|x| !(x.abs() <= FAR)),
-        5 => whole(!(LEAST <= c.scale && c.scale <= MOST) || c.reciprocal != 1.0 / c.scale),
-        8 => c.axes.iter().position(|&r| r == 0 || r > 256),
-        9 => whole(c.labels.len() as u32 != c.axes.iter().product()),
-        11 => whole(c.asked > 8).or(c.labels.iter().position(|&v| v > 8)),
-        _ => None,
-    };
-    (3..=11).find_map(|number| Some((number, place(number)?)))
-}
-
 fn answer(c: &Case) -> String {
     let sums = |points: &[u32], triangles: &[u32]| {
         let after = written(points, blank_floats(c.points));
         format!("{} {} \n", sum(&after), sum(&written(triangles, blank(c.triangles))))
     };
-    let boxed = refusal(c).map_or_else(|| Ok(boxes(c)), Err);
-    let short = |(points, triangles): &(Vec<u32>, Vec<u32>)| points.len() > c.points || triangles.len() > c.triangles;
-    match boxed.and_then(|b| if short(&b) { Err((14, 0)) } else { Ok(b) }) {
+    match boxed(c) {
         Err((number, place)) => format!("refused {number} {place} {}", sums(&[], &[])),
         Ok(boxed) => {
             assert_eq!(boxed, model(c));

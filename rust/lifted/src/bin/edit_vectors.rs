@@ -33,17 +33,13 @@
 //! are a fill without cavities, those after it are compared with a fresh flood of the surface cells. The cases chosen
 //! by hand come first; random ones, from a fixed seed, follow. How many there are of each family is printed.
 
+use lifted::models::edits::{refusal, Edit, Map, CLOSE, INSIDE, OPEN, OUTSIDE, SURFACE};
 use lifted::shapes::{serpentine, spiral, Cell, Random};
-use std::collections::{HashSet, VecDeque};
+use std::collections::HashSet;
 use std::time::Instant;
 
 /// What the program reads.
 const LIMIT: usize = 65536;
-const OUTSIDE: u8 = 6;
-const INSIDE: u8 = 7;
-const SURFACE: u8 = 8;
-const OPEN: u32 = 0;
-const CLOSE: u32 = 1;
 
 // ---- cases
 
@@ -54,12 +50,6 @@ enum Before {
     Raw(Vec<u8>),
     RandomLabels(u32, u32, u32),
     Pattern(Vec<u8>),
-}
-
-#[derive(Clone, Copy)]
-struct Edit {
-    way: u32,
-    cell: Cell,
 }
 
 #[derive(Clone)]
@@ -77,112 +67,11 @@ struct Case {
     edits: Edits,
 }
 
-// ---- the model
-
-#[derive(Clone, PartialEq)]
-struct Map {
-    axes: [usize; 3],
-    labels: Vec<u8>,
-}
-
-impl Map {
-    fn number(&self, at: [usize; 3]) -> usize {
-        at[0] + at[1] * self.axes[0] + at[2] * self.axes[0] * self.axes[1]
-    }
-    fn cell(&self, n: usize) -> [usize; 3] {
-        [n % self.axes[0], n / self.axes[0] % self.axes[1], n / self.axes[0] / self.axes[1]]
-    }
-    fn neighbour(&self, n: usize, axis: usize, up: bool) -> Option<usize> {
-        let mut at = self.cell(n);
-        at[axis] = if up { at[axis] + 1 } else { at[axis].checked_sub(1)? };
-        (at[axis] < self.axes[axis]).then(|| self.number(at))
-    }
-    /// The face neighbours, of which a border cell lacks some.
-    fn neighbours(&self, n: usize) -> [Option<usize>; 6] {
-        std::array::from_fn(|d| self.neighbour(n, d / 2, d % 2 == 1))
-    }
-    fn on_border(&self, n: usize) -> bool {
-        self.neighbours(n).contains(&None)
-    }
-    /// For each cell, whether it is one of the starts or reached from one through cells that `through` takes.
-    fn reached(&self, starts: Vec<usize>, through: impl Fn(u8) -> bool) -> Vec<bool> {
-        let mut seen = vec![false; self.labels.len()];
-        starts.iter().for_each(|&n| seen[n] = true);
-        let mut queue = VecDeque::from(starts);
-        while let Some(n) = queue.pop_front() {
-            for next in self.neighbours(n).into_iter().flatten() {
-                if !seen[next] && through(self.labels[next]) {
-                    seen[next] = true;
-                    queue.push_back(next);
-                }
-            }
-        }
-        seen
-    }
-    /// The cells of the border that `takes` takes.
-    fn border(&self, takes: impl Fn(u8) -> bool) -> Vec<usize> {
-        (0..self.labels.len()).filter(|&n| takes(self.labels[n]) && self.on_border(n)).collect()
-    }
-    /// If c is on the border or has a face neighbour 6, then c and every 7 reached from it through cells 7 become 6.
-    /// Otherwise c becomes 7.
-    fn open(&mut self, c: usize) {
-        let out = self.on_border(c) || self.neighbours(c).into_iter().flatten().any(|n| self.labels[n] == OUTSIDE);
-        if !out {
-            self.labels[c] = INSIDE;
-            return;
-        }
-        let reached = self.reached(vec![c], |v| v == INSIDE);
-        (0..reached.len()).filter(|&n| reached[n]).for_each(|n| self.labels[n] = OUTSIDE);
-    }
-    /// c becomes 8. If it was 6, each other cell 6 that was joined to c through cells 6 and now has no path of cells 6
-    /// to a border cell becomes 7.
-    fn close(&mut self, c: usize) {
-        let was = self.labels[c];
-        let joined = self.reached(vec![c], |v| v == OUTSIDE);
-        self.labels[c] = SURFACE;
-        if was != OUTSIDE {
-            return;
-        }
-        let with_path = self.reached(self.border(|v| v == OUTSIDE), |v| v == OUTSIDE);
-        for n in 0..joined.len() {
-            if n != c && joined[n] && !with_path[n] {
-                self.labels[n] = INSIDE;
-            }
-        }
-    }
-    /// The flood of the surface cells: any other cell is 6 if it is joined to the border through such cells, else 7.
-    fn flooded(&self) -> Map {
-        let air = self.reached(self.border(|v| v != SURFACE), |v| v != SURFACE);
-        let label = |n: usize| match self.labels[n] {
-            SURFACE => SURFACE,
-            _ if air[n] => OUTSIDE,
-            _ => INSIDE,
-        };
-        Map { axes: self.axes, labels: (0..air.len()).map(label).collect() }
-    }
-}
+// ---- the model, run
 
 enum Answer {
     Changed(usize),
     Refused(usize, usize),
-}
-
-/// The lowest number that applies, with its place.
-fn refusal(axes: Cell, labels: &[u8], e: Edit) -> Option<(usize, usize)> {
-    if let Some(axis) = axes.iter().position(|&r| r == 0 || r > 256) {
-        return Some((8, axis));
-    }
-    if labels.len() as u32 != axes.iter().product() {
-        return Some((9, 0));
-    }
-    if let Some(n) = labels.iter().position(|v| ![OUTSIDE, INSIDE, SURFACE].contains(v)) {
-        return Some((11, n));
-    }
-    if (0..3).any(|a| e.cell[a] >= axes[a]) {
-        return Some((12, 0));
-    }
-    let label = labels[(e.cell[0] + e.cell[1] * axes[0] + e.cell[2] * axes[0] * axes[1]) as usize];
-    ((label == SURFACE) != (e.way == OPEN)).then_some((13, 0))
 }
 
 /// What is counted over all calls; `floods` are those whose labels were compared with a fresh flood, `sealed` and

@@ -21,14 +21,12 @@
 //! search. The cases chosen by hand come first; random ones, from a fixed seed, fill the file up. How many there
 //! are of each family is printed.
 
-use lifted::fill::{FillMode, VoxelizedVolume};
+use lifted::fill::FillMode;
+use lifted::models::fill::{count, lifted, refusal, Filled, CAVITIES, FLOOD, MODES};
 use lifted::shapes::{serpentine, spiral, Cell, Random};
 use std::time::{Duration, Instant};
 
 const LIMIT: usize = 65536;
-const FLOOD: FillMode = FillMode::FloodFill { detect_cavities: false };
-const CAVITIES: FillMode = FillMode::FloodFill { detect_cavities: true };
-const MODES: [FillMode; 3] = [FillMode::SurfaceOnly, FLOOD, CAVITIES];
 
 #[derive(Clone)]
 enum Marks {
@@ -45,13 +43,6 @@ struct Case {
     marks: Marks,
 }
 
-#[derive(PartialEq)]
-struct Filled {
-    labels: Vec<u8>,
-    scans: u32,
-    left: usize,
-}
-
 /// What is counted over all calls: those of the crate, those refused, cells visited by scans, the most scans of a
 /// call, calls with cells left, calls with labels 1 or 2 at the end, and the crate's time.
 #[derive(Default)]
@@ -63,17 +54,6 @@ struct Tally {
     left: usize,
     unwalked: usize,
     time: Duration,
-}
-
-fn count(labels: &[u8], value: u8) -> usize {
-    labels.iter().filter(|&&v| v == value).count()
-}
-
-fn lifted(axes: [u32; 3], labels: &[u8], mode: FillMode) -> Filled {
-    let mut volume = VoxelizedVolume::from_marks(axes, |n| labels[n as usize] == 8);
-    volume.fill(mode);
-    let labels: Vec<u8> = volume.values.iter().map(|v| v.number()).collect();
-    Filled { scans: volume.scans, left: count(&labels, 0), labels }
 }
 
 /// A phase: cells `walk` take `set`, cells `walkers` walk too, and a surface cell that ends a walk takes `mark`.
@@ -219,14 +199,6 @@ fn filled(axes: [u32; 3], labels: &[u8], mode: FillMode, tally: &mut Tally) -> F
     f
 }
 
-/// The lowest number that applies, with its place.
-fn refusal(c: &Case, labels: &[u8]) -> Option<(usize, usize)> {
-    let axis = || c.axes.iter().position(|&r| r == 0 || r > 256).map(|a| (8, a));
-    let length = || (c.length as u32 != c.axes.iter().product()).then_some((9, 0));
-    let label = || labels.iter().position(|&v| v != 0 && v != 8).map(|n| (11, n));
-    axis().or_else(length).or_else(label)
-}
-
 fn labels(c: &Case) -> Vec<u8> {
     let surface = |m: bool| if m { 8 } else { 0 };
     match &c.marks {
@@ -251,7 +223,7 @@ fn sum(s: u64, labels: &[u8]) -> u64 {
 
 fn single(c: &Case, mode: FillMode, tally: &mut Tally) -> String {
     let labels = labels(c);
-    if let Some((number, place)) = refusal(c, &labels) {
+    if let Some((number, place)) = refusal(c.axes, &labels) {
         tally.refused += 1;
         return format!("refused {number} {place} {} \n", sum(0, &labels));
     }

@@ -18,20 +18,11 @@
 //! cases chosen by hand come first, then random ones from a fixed seed. How many there are of each family and of
 //! each answer is printed.
 
-use lifted::fill::VoxelizedVolume;
-use lifted::list::{Voxel, VoxelSet};
 use lifted::marks::{self, case, changed, dot, down, scaled, single, up, FAR, LEAST, MOST};
+use lifted::models::list::{self, part, pairs, Lent, Listed};
+use lifted::models::Fault;
 use lifted::shapes::Random;
 use lifted::stored::{self, bits, blank, bytes, shown, sum, written, Row, Stored};
-
-/// What a list is lent: a mesh on a grid, labels, and the lengths of the outputs.
-#[derive(Clone)]
-struct Lent {
-    mesh: marks::Case,
-    labels: Vec<u8>,
-    records: usize,
-    list: usize,
-}
 
 #[derive(Clone)]
 enum Case {
@@ -41,33 +32,6 @@ enum Case {
 }
 
 // ---- what is to be answered
-
-/// The records and the triangle numbers of a list.
-#[derive(PartialEq, Debug)]
-struct Listed {
-    records: Vec<[u32; 6]>,
-    list: Vec<u32>,
-}
-
-/// The pairs of a cell 8 and a triangle, in the crate's order: triangle by triangle.
-fn pairs(c: &Lent) -> Vec<(u32, u32)> {
-    let of = |(t, cells): (usize, Vec<usize>)| {
-        let surface = cells.into_iter().filter(|&n| c.labels[n] == 8);
-        surface.map(|n| (n as u32, t as u32)).collect::<Vec<_>>()
-    };
-    marks::touched(&c.mesh).into_iter().enumerate().flat_map(of).collect()
-}
-
-/// The crate's conversion.
-fn converted(c: &Lent, pairs: &[(u32, u32)]) -> Listed {
-    let set = VoxelSet::from(VoxelizedVolume::from_labels(c.mesh.axes, &c.labels, pairs));
-    let record = |v: &Voxel| {
-        let (start, end) = v.intersections_range;
-        let [i, j, k] = [0, 1, 2].map(|a| v.coords[a] as u32);
-        [i, j, k, v.is_on_surface as u32, start as u32, end as u32]
-    };
-    Listed { records: set.voxels.iter().map(record).collect(), list: set.intersections.to_vec() }
-}
 
 /// Document 01's list: every cell 7 and 8, i outermost and k innermost, each with its triangles, ascending.
 fn model(c: &Lent, pairs: &[(u32, u32)]) -> Listed {
@@ -88,30 +52,17 @@ fn model(c: &Lent, pairs: &[(u32, u32)]) -> Listed {
     Listed { records, list }
 }
 
-/// The list if nothing but a short output stands against it.
-fn listed(c: &Lent, with_pairs: bool) -> Result<Listed, (usize, usize)> {
-    let of_mesh = if with_pairs { marks::refusal(&c.mesh) } else { marks::refusal(&only_grid(&c.mesh)) };
-    let label = || c.labels.iter().position(|&v| v > 8).map(|place| (11, place));
-    if let Some(fault) = of_mesh.or_else(label) {
-        return Err(fault);
-    }
+/// The list, which document 01's words are asserted to give too.
+fn listed(c: &Lent, with_pairs: bool) -> Result<Listed, Fault> {
+    let answer = list::listed(c, with_pairs)?;
     let pairs = if with_pairs { pairs(c) } else { vec![] };
-    let answer = converted(c, &pairs);
     assert_eq!(answer, model(c, &pairs));
     Ok(answer)
 }
 
-/// The grid of a mesh, with a point and a placement that nothing stands against: only 8 and 9 are left.
-fn only_grid(c: &marks::Case) -> marks::Case {
-    marks::Case { axes: c.axes, length: c.length, ..case(&[[0.0; 3]], &[], [1, 1, 1]) }
-}
-
 fn answer_list(c: &Lent, with_pairs: bool) -> String {
     assert_eq!(c.mesh.length, c.labels.len());
-    let answer = listed(c, with_pairs).and_then(|a| {
-        let short = 6 * a.records.len() > c.records || a.list.len() > c.list;
-        if short { Err((14, 0)) } else { Ok(a) }
-    });
+    let answer = listed(c, with_pairs).and_then(|a| a.in_room(c));
     let sums = |records: &[u32], list: &[u32]| {
         let of_list = if with_pairs { format!("{} ", sum(list)) } else { String::new() };
         format!("{} {of_list}\n", sum(records))
@@ -131,9 +82,9 @@ fn answer_list(c: &Lent, with_pairs: bool) -> String {
 
 fn answer_range(list: &Row, start: u32, end: u32) -> String {
     let numbers = list.numbers();
-    let fine = start <= end && end as usize <= numbers.len();
-    let part = if fine { &numbers[start as usize..end as usize] } else { &[] };
-    let check = if fine { "fine" } else { "refused 15 0 " };
+    let part = part(&numbers, start, end);
+    let check = if part.is_some() { "fine" } else { "refused 15 0 " };
+    let part = part.unwrap_or(&[]);
     format!("{check}\npart {} {}{} \n", part.len(), shown(part), sum(part))
 }
 

@@ -20,16 +20,12 @@
 //! cases chosen by hand come first, then random ones from a fixed seed. How many there are of each family and of
 //! each answer is printed.
 
-use lifted::list::{IVector, Voxel, VoxelSet};
 use lifted::marks::{changed, down, up, FAR, LEAST, MOST};
-use lifted::parts::{clip_mesh, CutPlane, VHACD};
+use lifted::models::parts::{classified, faulty_classes, faulty_planes, first_plane, refined, split_by};
+use lifted::models::parts::{Planes, DEEP};
 use lifted::shapes::Random;
-use lifted::sizing::Vector;
 use lifted::stored::{self, bits, blank, blank_floats, bytes, halves, shown, shown_floats, sum, written, Row, Stored};
-use std::sync::Arc;
 
-/// The greatest d.
-const DEEP: f32 = 1073741824.0;
 const NO_CLASS: u32 = 4294967294;
 const SEVERAL: u32 = 4294967295;
 
@@ -38,19 +34,6 @@ struct Classes {
     entries: Row,
     ends: Row,
     count: u64,
-    length: usize,
-}
-
-#[derive(Clone)]
-struct Planes {
-    origin: [f32; 3],
-    scale: f32,
-    reciprocal: f32,
-    axis: u64,
-    low: u64,
-    high: u64,
-    best: u64,
-    step: u64,
     length: usize,
 }
 
@@ -68,34 +51,7 @@ enum Case {
     Split(Split),
 }
 
-type Fault = (usize, usize);
-
-fn whole(number: usize, fault: bool) -> Option<Fault> {
-    fault.then_some((number, 0))
-}
-
 // ---- classes
-
-/// Refusal 15: the first end that falls back, is the 65,536th, or is the last and not the list's length.
-fn bad_end(ends: &[u32], length: usize) -> Option<Fault> {
-    let begin = |p: usize| if p == 0 { 0 } else { ends[p - 1] };
-    let last = |p: usize| p + 1 == ends.len() && ends[p] as usize != length;
-    let bad = |&p: &usize| ends[p] < begin(p) || p == 65535 || last(p);
-    (0..ends.len()).find(bad).map(|p| (15, p)).or(whole(15, ends.is_empty() && length > 0))
-}
-
-/// The crate's classes. Each part is a list of its own, of one cell or two, over the entries of all.
-fn classified(entries: &[u32], ends: &[u32], count: usize) -> Vec<u32> {
-    let all = Arc::new(entries.to_vec());
-    let part = |p: usize| {
-        let (from, to) = (if p == 0 { 0 } else { ends[p - 1] as usize }, ends[p] as usize);
-        let middle = (from + to) / 2;
-        let ranges = if p % 2 == 0 { vec![(from, to)] } else { vec![(from, middle), (middle, to)] };
-        let cell = |range| Voxel { coords: IVector::new(0, 0, 0), is_on_surface: true, intersections_range: range };
-        VoxelSet { voxels: ranges.into_iter().map(cell).collect(), intersections: all.clone(), ..VoxelSet::new() }
-    };
-    VHACD { voxel_parts: (0..ends.len()).map(part).collect() }.classify_primitives(count)
-}
 
 /// Document 01's classes: none, one part's number, or several.
 fn classes(entries: &[u32], ends: &[u32], count: usize) -> Vec<u32> {
@@ -116,10 +72,7 @@ fn classes(entries: &[u32], ends: &[u32], count: usize) -> Vec<u32> {
 
 fn answer_classes(c: &Classes) -> String {
     let (entries, ends) = (c.entries.numbers(), c.ends.numbers());
-    let missing = entries.iter().position(|&t| t as u64 >= c.count).map(|place| (4, place));
-    let short = whole(14, (c.length as u64) < c.count);
-    let fault = whole(1, c.count > 65536).or(missing).or(short).or_else(|| bad_end(&ends, entries.len()));
-    if let Some((number, place)) = fault {
+    if let Some((number, place)) = faulty_classes(&entries, &ends, c.count, c.length) {
         return format!("refused {number} {place} {} \n", sum(&blank(c.length)));
     }
     let answer = classified(&entries, &ends, c.count as usize);
@@ -129,30 +82,6 @@ fn answer_classes(c: &Classes) -> String {
 
 // ---- planes
 
-/// The crate's planes.
-fn refined(c: &Planes) -> Vec<CutPlane> {
-    let all = |n: u64| IVector::new(n as i32, n as i32, n as i32);
-    let [x, y, z] = c.origin;
-    let set = VoxelSet {
-        origin: Vector::new(x, y, z),
-        scale: c.scale,
-        min_bb: all(c.low),
-        max_bb: all(c.high),
-        ..VoxelSet::new()
-    };
-    let best = CutPlane { abc: Vector::ZERO, d: 0.0, axis: c.axis as u8, index: c.best as u32 };
-    let mut planes = vec![];
-    VHACD::refine_axes_aligned_clipping_planes(&set, &best, c.step as u32, &mut planes);
-    planes
-}
-
-fn faulty_planes(c: &Planes) -> Option<Fault> {
-    let origin = c.origin.iter().position(|x| !(x.abs() <= FAR)).map(|place| (3, place));
-    let lent = !(LEAST <= c.scale && c.scale <= MOST) || c.reciprocal != 1.0 / c.scale;
-    let indices = c.low > c.high || [c.low, c.high, c.best].iter().any(|&n| n >= 256);
-    origin.or(whole(5, lent)).or(whole(12, c.axis > 2 || indices || c.step > 256))
-}
-
 /// The indices of document 01's planes: those from low to high that are at most a step off the best one.
 fn indices(c: &Planes) -> Vec<u32> {
     let near = |i: &u32| (*i as i64 - c.best as i64).abs() <= c.step as i64;
@@ -160,8 +89,7 @@ fn indices(c: &Planes) -> Vec<u32> {
 }
 
 fn answer_planes(c: &Planes) -> String {
-    let fault = faulty_planes(c).or_else(|| whole(14, indices(c).len() > c.length));
-    if let Some((number, place)) = fault {
+    if let Some((number, place)) = faulty_planes(c) {
         return format!("refused {number} {place} {} \n", sum(&blank_floats(c.length)));
     }
     let answer = refined(c);
@@ -171,22 +99,13 @@ fn answer_planes(c: &Planes) -> String {
     let ds: Vec<u32> = answer.iter().map(|p| p.d.to_bits()).collect();
     let d = |i: &u32| 0.0 - (c.origin[axis] + (0.5 + *i as f32) * c.scale);
     assert!(answer.iter().map(|p| p.d).eq(model.iter().map(d)));
-    let first = c.low.max(c.best.saturating_sub(c.step));
+    let first = first_plane(c);
     assert!(model.first().is_none_or(|&i| i as u64 == first));
     let after = sum(&written(&ds, blank_floats(c.length)));
     format!("planned {first} {} {}{after} \n", ds.len(), shown_floats(&ds))
 }
 
 // ---- split
-
-/// The crate's split by a plane whose direction is the axis.
-fn clipped(points: &[f32], axis: usize, d: f32) -> [Vec<u32>; 2] {
-    let all: Vec<Vector> = points.chunks(3).map(|p| Vector::new(p[0], p[1], p[2])).collect();
-    let plane = CutPlane { abc: Vector::ith(axis, 1.0), d, axis: axis as u8, index: 0 };
-    let (mut above, mut below) = (vec![], vec![]);
-    clip_mesh(&all, &plane, &mut above, &mut below);
-    [above, below].map(|side| side.iter().flat_map(|p| bits(&[p.x, p.y, p.z])).collect())
-}
 
 /// Document 01's split, with p + d above 0 as p above -d, which no rounding touches.
 fn sides(points: &[f32], axis: usize, d: f32) -> [Vec<u32>; 2] {
@@ -196,22 +115,13 @@ fn sides(points: &[f32], axis: usize, d: f32) -> [Vec<u32>; 2] {
     [to(|p, plane| p >= plane), to(|p, plane| p <= plane)]
 }
 
-fn faulty_split(c: &Split, points: &[f32]) -> Option<Fault> {
-    let d = whole(3, !(c.d.abs() <= DEEP));
-    let far = points.iter().position(|x| !(x.abs() <= FAR)).map(|place| (3, place + 1));
-    let length = points.len() % 3 != 0 || points.len() / 3 > 65536;
-    whole(1, length).or(d).or(far).or(whole(12, c.axis > 2))
-}
-
 fn answer_split(c: &Split) -> String {
     let points = c.points.floats();
     let sums = |sides: &[Vec<u32>; 2]| {
         let of = |n: usize| sum(&written(&sides[n], blank_floats(c.lengths[n])));
         format!("{} {} \n", of(0), of(1))
     };
-    let answer = faulty_split(c, &points).map_or_else(|| Ok(clipped(&points, c.axis as usize, c.d)), Err);
-    let short = |a: &[Vec<u32>; 2]| (0..2).any(|n| a[n].len() > c.lengths[n]);
-    match answer.and_then(|a| if short(&a) { Err((14, 0)) } else { Ok(a) }) {
+    match split_by(&points, c.axis, c.d, c.lengths) {
         Err((number, place)) => format!("refused {number} {place} {}", sums(&[vec![], vec![]])),
         Ok(a) => {
             assert_eq!(a, sides(&points, c.axis as usize, c.d));
@@ -377,7 +287,8 @@ fn random_classes(rng: &mut Random) -> Case {
 fn about(origin: [f32; 3], scale: f32, axis: u64, range: [u64; 2], best: u64, step: u64) -> Planes {
     let [low, high] = range;
     let c = Planes { origin, scale, reciprocal: 1.0 / scale, axis, low, high, best, step, length: 9 };
-    if faulty_planes(&c).is_none() { Planes { length: indices(&c).len(), ..c } } else { c }
+    let roomy = Planes { length: usize::MAX, ..c.clone() };
+    if faulty_planes(&roomy).is_none() { Planes { length: indices(&c).len(), ..c } } else { c }
 }
 
 fn plain(range: [u64; 2], best: u64, step: u64) -> Planes {
@@ -474,11 +385,8 @@ fn random_planes(rng: &mut Random) -> Case {
 /// With outputs that have so many numbers more than the answer.
 fn split_roomy(points: Row, axis: u64, d: f32, more: [isize; 2]) -> Split {
     let c = Split { points, axis, d, lengths: [0; 2] };
-    let numbers = c.points.floats();
-    let needs = match faulty_split(&c, &numbers) {
-        None => clipped(&numbers, axis as usize, d).map(|side| side.len()),
-        Some(_) => [9, 9],
-    };
+    let sides = split_by(&c.points.floats(), axis, d, [usize::MAX; 2]);
+    let needs = sides.map_or([9, 9], |sides| sides.map(|side| side.len()));
     Split { lengths: [0, 1].map(|n| (needs[n] as isize + more[n]).max(0) as usize), ..c }
 }
 

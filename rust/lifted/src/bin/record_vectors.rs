@@ -12,164 +12,13 @@
 //! changed byte has its place, how many of the 255 inputs are mapped, and a sum over all that is said and written.
 //! Byte n of an output is n % 97 + 100 before the call.
 
-use lifted::fill::{FillMode, VoxelizedVolume};
-use lifted::marks::{self, changed, down, up, Case, FAR};
+use lifted::marks::{changed, down, up, FAR};
+use lifted::models::program::{head, point, stream, summarize, text, triangle, Said};
+use lifted::models::sizing::SMALLEST;
 use lifted::shapes::Random;
-use lifted::sizing::{self, Vector};
 use lifted::stored::{self, Families, Stored};
 
 const ROOM: usize = 300;
-/// The smallest cell size, and the smallest extent that a resolution divides. The greatest size is `FAR`.
-const SMALLEST: f32 = 1.0 / 1024.0;
-
-// ---- the model
-
-#[derive(Clone, Copy, PartialEq, Debug)]
-struct Refusal {
-    number: usize,
-    place: usize,
-}
-
-fn refuse<T>(number: usize, place: usize) -> Result<T, Refusal> {
-    Err(Refusal { number, place })
-}
-
-#[derive(Clone, Copy)]
-enum Way {
-    Size(f32),
-    Resolution(u32),
-}
-
-#[derive(Default)]
-struct Mesh {
-    points: Vec<f32>,
-    triangles: Vec<u32>,
-}
-
-struct Complete {
-    way: Way,
-    mode: u8,
-    mesh: Mesh,
-}
-
-#[derive(Debug, PartialEq)]
-struct Summary {
-    axes: [u32; 3],
-    outside: usize,
-    inside: usize,
-    surface: usize,
-    left: usize,
-    scans: usize,
-}
-
-fn word(bytes: &[u8]) -> u32 {
-    u32::from_le_bytes(bytes.try_into().unwrap())
-}
-
-fn words(bytes: &[u8]) -> Vec<u32> {
-    bytes.chunks(4).map(word).collect()
-}
-
-fn read(input: &[u8]) -> Result<Complete, Refusal> {
-    let (way, mode) = match input {
-        [] | [_] => return refuse(17, 0),
-        [b'V', b'h', rest @ ..] if rest.len() < 6 => return refuse(17, 0),
-        [b'V', b'h', way @ 0..=1, mode @ 0..=2, rest @ ..] => {
-            let bits = word(&rest[..4]);
-            (if *way == 0 { Way::Size(f32::from_bits(bits)) } else { Way::Resolution(bits) }, *mode)
-        }
-        _ => return refuse(16, 0),
-    };
-    let mut mesh = Mesh::default();
-    let mut at = 8;
-    loop {
-        let (points, triangles) = (mesh.points.len() / 3, mesh.triangles.len() / 3);
-        let fields = match &input[at..] {
-            [] | [_] => return refuse(17, at),
-            [b'V', b'p', ..] if points == 256 => return refuse(1, 0),
-            [b'V', b't', ..] if triangles == 256 => return refuse(1, 0),
-            [b'V', b'p', ..] if triangles > 0 => return refuse(16, at),
-            [b'V', b'p' | b't', rest @ ..] => rest.get(..12),
-            [b'V', b'z'] => return Ok(Complete { way, mode, mesh }),
-            [b'V', b'z', ..] => return refuse(16, at + 2),
-            _ => return refuse(16, at),
-        };
-        let Some(fields) = fields else { return refuse(17, at) };
-        if input[at + 1] == b'p' {
-            mesh.points.extend(words(fields).into_iter().map(f32::from_bits));
-        } else {
-            mesh.triangles.extend(words(fields));
-        }
-        at += 14;
-    }
-}
-
-/// The axes, the origin and the scale.
-fn sized(way: Way, points: &[f32]) -> Result<sizing::VoxelizedVolume, Refusal> {
-    let vectors: Vec<Vector> = points.chunks(3).map(|p| Vector::new(p[0], p[1], p[2])).collect();
-    let volume = match way {
-        Way::Size(size) if !(SMALLEST..=FAR).contains(&size) => return refuse(5, 0),
-        Way::Size(size) => sizing::VoxelizedVolume::with_voxel_size(&vectors, size),
-        Way::Resolution(r) if !(2..=254).contains(&r) => return refuse(6, 0),
-        Way::Resolution(r) => {
-            let d = sizing::local_point_cloud_aabb_ref(&vectors).extents();
-            if d.x.max(d.y).max(d.z) < SMALLEST {
-                return refuse(7, 0);
-            }
-            sizing::VoxelizedVolume::voxelize(&vectors, r)
-        }
-    };
-    if let Some(axis) = volume.resolution.iter().position(|r| !(1..=256).contains(r)) {
-        return refuse(8, axis);
-    }
-    if volume.resolution.iter().product::<u32>() > 32768 {
-        return refuse(8, 0);
-    }
-    Ok(volume)
-}
-
-fn summarize(input: &[u8]) -> Result<Summary, Refusal> {
-    let Complete { way, mode, mesh } = read(input)?;
-    if mesh.points.is_empty() {
-        return refuse(2, 0);
-    }
-    // a NaN is not at most anything
-    if let Some(place) = mesh.points.iter().position(|x| !(x.abs() <= FAR)) {
-        return refuse(3, place);
-    }
-    let missing = |t: &[u32]| t.iter().any(|&v| v as usize >= mesh.points.len() / 3);
-    if let Some(place) = mesh.triangles.chunks(3).position(missing) {
-        return refuse(4, place);
-    }
-    let volume = sized(way, &mesh.points)?;
-    let (axes, scale) = (volume.resolution, volume.scale);
-    let length = axes.iter().product::<u32>() as usize;
-    let origin = [volume.origin.x, volume.origin.y, volume.origin.z];
-    let Mesh { points, triangles } = mesh;
-    let case = Case { points, triangles, axes, origin, scale, reciprocal: 1.0 / scale, length };
-    assert_eq!(marks::refusal(&case), None, "what was sized is marked");
-    let mut surface = vec![false; length];
-    marks::touched(&case).concat().into_iter().for_each(|n| surface[n] = true);
-    let mut map = VoxelizedVolume::from_marks(axes, |n| surface[n as usize]);
-    map.fill(match mode {
-        0 => FillMode::SurfaceOnly,
-        1 => FillMode::FloodFill { detect_cavities: false },
-        _ => FillMode::FloodFill { detect_cavities: true },
-    });
-    let count = |label| map.values.iter().filter(|v| v.number() == label).count();
-    let [left, outside, inside, surface] = [0, 6, 7, 8].map(count);
-    assert!(mode == 2 || left + outside + inside + surface == length, "only a look for cavities leaves other labels");
-    Ok(Summary { axes, outside, inside, surface, left, scans: map.scans as usize })
-}
-
-fn text(said: &Result<Summary, Refusal>) -> String {
-    match said {
-        Err(f) => format!("refused {}\n", f.number),
-        Ok(Summary { axes: [r0, r1, r2], outside, inside, surface, left, scans }) => format!(
-            "cells {r0} {r1} {r2}\noutside {outside}\ninside {inside}\nsurface {surface}\nleft {left}\nscans {scans}\n"
-        ),
-    }
-}
 
 // ---- what the program writes of it
 
@@ -190,9 +39,9 @@ fn sum(s: u64, bytes: &[u8]) -> u64 {
     bytes.iter().fold(s, |s, &b| folded(s, b as u64))
 }
 
-fn numbers(said: &Result<Summary, Refusal>) -> Vec<usize> {
+fn numbers(said: &Said) -> Vec<usize> {
     match said {
-        Err(f) => vec![f.number, f.place],
+        Err((number, place)) => vec![*number, *place],
         Ok(s) => {
             let axes = s.axes.map(|r| r as usize);
             [&axes[..], &[s.outside, s.inside, s.surface, s.left, s.scans]].concat()
@@ -241,30 +90,12 @@ fn damaged(input: &Vec<u8>) -> Stored {
 
 // ---- streams
 
-fn head(way: u8, mode: u8, bits: u32) -> Vec<u8> {
-    [&[b'V', b'h', way, mode], &bits.to_le_bytes()[..]].concat()
-}
-
 fn by_size(mode: u8, size: f32) -> Vec<u8> {
     head(0, mode, size.to_bits())
 }
 
 fn by_resolution(mode: u8, r: u32) -> Vec<u8> {
     head(1, mode, r)
-}
-
-fn point(p: [f32; 3]) -> Vec<u8> {
-    [b"Vp".to_vec(), stored::bytes(&p.map(f32::to_bits))].concat()
-}
-
-fn triangle(t: [u32; 3]) -> Vec<u8> {
-    [b"Vt".to_vec(), stored::bytes(&t)].concat()
-}
-
-fn stream(head: Vec<u8>, points: &[[f32; 3]], triangles: &[[u32; 3]]) -> Vec<u8> {
-    let points = points.iter().flat_map(|p| point(*p));
-    let triangles = triangles.iter().flat_map(|t| triangle(*t));
-    head.into_iter().chain(points).chain(triangles).chain(*b"Vz").collect()
 }
 
 /// Points and triangles.
