@@ -1,2 +1,3 @@
 pub mod Looks
 pub mod Calming
+pub mod Sixteen

@@ -1,9 +1,10 @@
 -- What the crate `calm` does to a block of slabs before its cells are visited. Definitions only.
-use mathlib.Core.Bool.{Bool, false, cond}
+use mathlib.Core.Bool.{Bool, false, not, cond, _&&_, _||_}
 use mathlib.Core.Path.{_≡_}
 use mathlib.Core.List.{List}
-use Prim.Native.Nat.{ℕ, _+_, _-_, _/_, _%_, _≤_, _<_, min}
-use lib.Dec.{ltb}
+use Prim.Native.Nat.{ℕ, zero, suc, _+_, _-_, _/_, _%_, _≤_, _<_, min}
+use lib.Dec.{eqb, ltb}
+use lib.ListN.{getD, set}
 use Rattle.grid.specs.declared.Axes.{Axes}
 use Rattle.grid.specs.declared.Cell.{Cell}
 use Rattle.grid.specs.Grid.{InGrid}
@@ -49,3 +50,43 @@ pub record Grouped (r : Axes) (first end from to : ℕ) : Type 0 where
   pub starts : from % 16 ≡ 0
   pub some : from < r .r2
   pub ends : to ≡ min (from + 16) (r .r2)
+
+-- ---- sixteen cells from number n on
+
+pub record Other (a b v : ℕ) : Type 0 where
+  pub first : v ≡ a → ⊥
+  pub second : v ≡ b → ⊥
+
+-- one that is not told was not before, and has neither label above nor below
+pub record Unmet (l : List ℕ) (n up down a b : ℕ) (told : List ℕ) (d : ℕ) : Type 0 where
+  pub before : getD told d 0 ≡ 0
+  pub above : Other a b (getD l (n + up + d) 0)
+  pub under : Other a b (getD l (n - down + d) 0)
+
+abbrev pub Tells : List ℕ → ℕ → ℕ → ℕ → ℕ → ℕ → List ℕ → List ℕ → Type 0
+Tells l n up down a b told t = (d : ℕ) → d < 16 → getD t d 0 ≡ 0 → Unmet l n up down a b told d
+
+-- ---- the sixteen settled one after the other
+
+-- labels, how many cells were set, and whether one may act
+pub record Sixteen : Type 0 where
+  pub labels : List ℕ
+  pub set : ℕ
+  pub acting : Bool
+
+-- whether the cell d on is to walk and is not told, and whether it is told and to walk or walks
+abbrev pub hushes : ℕ → List ℕ → ℕ → ℕ → List ℕ → Bool
+hushes todo told n d l = eqb (getD l (n + d) 0) todo && eqb (getD told d 0) 0
+
+abbrev pub stays : ℕ → ℕ → List ℕ → ℕ → ℕ → List ℕ → Bool
+stays todo other told n d l = (eqb (getD l (n + d) 0) todo || eqb (getD l (n + d) 0) other) && not (eqb (getD told d 0) 0)
+
+unfoldable pub settleFrom : ℕ → ℕ → ℕ → List ℕ → ℕ → ℕ → ℕ → Sixteen → Sixteen
+settleFrom todo done other told n zero d s = s
+settleFrom todo done other told n (suc m) d s =
+    settleFrom todo done other told n m (d + 1)
+    (record {
+      labels = set (s .labels) (n + d) (cond (hushes todo told n d (s .labels)) done (getD (s .labels) (n + d) 0));
+      set = s .set + cond (hushes todo told n d (s .labels)) 1 0;
+      acting = s .acting || stays todo other told n d (s .labels);
+    })
