@@ -1,9 +1,9 @@
 // From parry3d 0.30.2, src/transformation/voxelization/voxelized_volume.rs: `FillMode`, `VoxelValue`, `VoxelData`, and
 // of `VoxelizedVolume` the functions from `allocate` to `replace_value`, with the `match fill_mode` of `do_voxelize`
 // before them as `fill`. Changed and added lines end with `// touched`. Left out: the doc comments, the `cfg`
-// attributes and the 2D arms under them, the `use` lines, `Default` and the functions of `FillMode`. The crate's marks
-// come from triangles; here `from_marks` sets them. Its conversion to a `VoxelSet` is in list.rs, `to_trimesh` in
-// boxes.rs; they alone ask for `origin`, `scale`, `data` and `primitive_intersections`.
+// attributes and the 2D arms under them, the `use` lines, `Default` and the functions of `FillMode`. Marks come from
+// triangles in marking.rs, or `from_marks` sets them. The conversion to a `VoxelSet` is in list.rs, `to_trimesh` in
+// boxes.rs; they and marking.rs alone ask for `origin`, `scale`, `data` and `primitive_intersections`.
 //
 // Rust port, with modifications, of https://github.com/kmammou/v-hacd/blob/master/src/VHACD_Lib/src/vhacdVolume.cpp
 // By Khaled Mamou
@@ -183,7 +183,7 @@ impl VoxelizedVolume {
         }
     }
 
-    fn allocate(&mut self) {
+    pub fn allocate(&mut self) { // touched: pub
         let len = self.resolution[0] * self.resolution[1] * self.resolution[2];
         self.values
             .resize(len as usize, VoxelValue::PrimitiveUndefined);

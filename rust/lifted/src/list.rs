@@ -27,20 +27,49 @@ use std::sync::Arc; // touched
 
 pub type Int = i32;
 
-/// A stand-in for the crate's vector of whole numbers, which is not in the supplied text.
+/// A stand-in for the crate's vector of whole numbers, which is not in the supplied text: componentwise, as there.
 #[derive(Clone, Copy, Debug, PartialEq, Eq)]
-pub struct IVector([Int; DIM]);
+pub struct IVector {
+    pub x: Int,
+    pub y: Int,
+    pub z: Int,
+}
 
 impl IVector {
+    pub const ZERO: IVector = IVector { x: 0, y: 0, z: 0 };
+    pub const ONE: IVector = IVector { x: 1, y: 1, z: 1 };
+
     pub fn new(x: Int, y: Int, z: Int) -> IVector {
-        IVector([x, y, z])
+        IVector { x, y, z }
+    }
+
+    pub fn min(self, o: IVector) -> IVector {
+        IVector { x: self.x.min(o.x), y: self.y.min(o.y), z: self.z.min(o.z) }
+    }
+
+    pub fn max(self, o: IVector) -> IVector {
+        IVector { x: self.x.max(o.x), y: self.y.max(o.y), z: self.z.max(o.z) }
     }
 }
 
 impl core::ops::Index<usize> for IVector {
     type Output = Int;
     fn index(&self, i: usize) -> &Int {
-        &self.0[i]
+        [&self.x, &self.y, &self.z][i]
+    }
+}
+
+impl core::ops::Add for IVector {
+    type Output = IVector;
+    fn add(self, o: IVector) -> IVector {
+        IVector { x: self.x + o.x, y: self.y + o.y, z: self.z + o.z }
+    }
+}
+
+impl core::ops::Sub for IVector {
+    type Output = IVector;
+    fn sub(self, o: IVector) -> IVector {
+        IVector { x: self.x - o.x, y: self.y - o.y, z: self.z - o.z }
     }
 }
 
@@ -70,8 +99,8 @@ impl VoxelSet {
             scale: 1.0,
             voxels: Vec::new(),
             intersections: Arc::new(Vec::new()),
-            min_bb: IVector([0; DIM]),
-            max_bb: IVector([0; DIM]),
+            min_bb: IVector::ZERO,
+            max_bb: IVector::ZERO,
         }
     }
 

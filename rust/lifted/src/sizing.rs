@@ -38,6 +38,10 @@ impl Vector {
         Vector { x, y, z }
     }
 
+    pub fn splat(value: Real) -> Vector {
+        Vector { x: value, y: value, z: value }
+    }
+
     /// All components 0, save component i.
     pub fn ith(i: usize, value: Real) -> Vector {
         let at = |a: usize| if a == i { value } else { 0.0 };
@@ -46,6 +50,10 @@ impl Vector {
 
     pub fn dot(self, o: Vector) -> Real {
         (self.x * o.x) + (self.y * o.y) + (self.z * o.z)
+    }
+
+    pub fn cross(self, o: Vector) -> Vector {
+        Vector { x: self.y * o.z - self.z * o.y, y: self.z * o.x - self.x * o.z, z: self.x * o.y - self.y * o.x }
     }
 }
 
@@ -97,6 +105,18 @@ pub struct Aabb {
 }
 
 impl Aabb {
+    pub fn from_half_extents(center: Vector, half_extents: Vector) -> Aabb {
+        Aabb { mins: center - half_extents, maxs: center + half_extents }
+    }
+
+    pub fn center(&self) -> Vector {
+        (self.mins + self.maxs) * 0.5
+    }
+
+    pub fn half_extents(&self) -> Vector {
+        (self.maxs - self.mins) * 0.5
+    }
+
     pub fn extents(&self) -> Vector {
         self.maxs - self.mins
     }
