@@ -23,6 +23,7 @@ use Rattle.mesh.specs.declared.Block.{Block}
 use Rattle.mesh.specs.Mesh.{isCandidate}
 use Rattle.mesh.specs.Ranges.{BlockOf, between, holds}
 use Rattle.mesh.proofs.Laws.{block-test}
+use Rattle.intervals.specs.Intervals.{Cut, rowOnI}
 use Rattle.marking.specs.Painted.{Painted, leftIn, one, rowOf}
 
 -- ---- painting
@@ -223,30 +224,77 @@ holds-is i j k c h =
     cell-path c (record { i = i; j = j; k = k }) (one-is i (c .i) (both-true x y xy .0)) (one-is j (c .j) (both-true x y xy .1)) (one-is k (c .k) (both-true (x && y) z h .1))
 
 -- a store at a cell paints it alone
-pub painted-cell : (r : Axes) (s : Slabs) (l : List ℕ) (i j k w : ℕ) → Sheet r l → InGrid r (record { i = i; j = j; k = k })
-    → w ≡ cond (keptAll s (record { i = i; j = j; k = k })) 8 (at r l (record { i = i; j = j; k = k }))
-    → Painted r (leftIn (rowOf (one i) j k) s) l (set l (num r (record { i = i; j = j; k = k })) w)
-painted-cell r s l i j k w h g e =
+pub painted-cell : (r : Axes) (l : List ℕ) (i j k : ℕ) → Sheet r l → InGrid r (record { i = i; j = j; k = k })
+    → Painted r (holds (rowOf (one i) j k)) l (set l (num r (record { i = i; j = j; k = k })) 8)
+painted-cell r l i j k h g =
     record {
-      size = length-set l (num r d) w;
-      labels = λ c in-c. stored r l w c d in-c g (h .size) (λ q v. v ∙ e ∙ same c q) (λ z v. v ∙ other c z);
+      size = length-set l (num r d) 8;
+      labels = λ c in-c. stored r l 8 c d in-c g (h .size) (λ q v. v ∙ same c q) (λ z v. v ∙ other c z);
     }
   where
     d : Cell
     d = record { i = i; j = j; k = k }
 
-    here : leftIn (rowOf (one i) j k) s d ≡ keptAll s d
-    here = ap (λ (t : Bool). t && keptAll s d) (holds-here i j k)
+    same : (c : Cell) → c ≡ d → 8 ≡ cond (holds (rowOf (one i) j k) c) 8 (at r l c)
+    same c q = sym (ap (λ (t : Bool). cond t 8 (at r l c)) (ap (holds (rowOf (one i) j k)) q ∙ holds-here i j k))
 
-    same : (c : Cell) → c ≡ d → cond (keptAll s d) 8 (at r l d) ≡ cond (leftIn (rowOf (one i) j k) s c) 8 (at r l c)
-    same c q = sym (ap (λ (x : Cell). cond (leftIn (rowOf (one i) j k) s x) 8 (at r l x)) q ∙ ap (λ (t : Bool). cond t 8 (at r l d)) here)
-
-    other : (c : Cell) → (c ≡ d → ⊥) → at r l c ≡ cond (leftIn (rowOf (one i) j k) s c) 8 (at r l c)
+    other : (c : Cell) → (c ≡ d → ⊥) → at r l c ≡ cond (holds (rowOf (one i) j k) c) 8 (at r l c)
     other c z = go (holds (rowOf (one i) j k) c) refl
       where
-        go : (t : Bool) → holds (rowOf (one i) j k) c ≡ t → at r l c ≡ cond (leftIn (rowOf (one i) j k) s c) 8 (at r l c)
+        go : (t : Bool) → holds (rowOf (one i) j k) c ≡ t → at r l c ≡ cond (holds (rowOf (one i) j k) c) 8 (at r l c)
         go true f = absurd (z (holds-is i j k c f))
-        go false f = sym (ap (λ (t : Bool). cond (t && keptAll s c) 8 (at r l c)) f)
+        go false f = sym (ap (λ (t : Bool). cond t 8 (at r l c)) f)
+
+-- ---- the whole of a row: no place yet, one more, every place; and it is what the slabs leave of another
+module _ (e : Ends) (j k : ℕ) where
+  pub none-held : (c : Cell) → holds (rowOf (upto e (e .from)) j k) c ≡ false
+  unfolding holds
+  none-held c = ap (λ (t : Bool). t && between (one j) (c .j) && between (one k) (c .k)) (upto-none e (c .i))
+
+  pub more-held : (n : ℕ) → Walk e n → (c : Cell) → holds (rowOf (upto e (n + 1)) j k) c ≡ (holds (rowOf (upto e n) j k) c || holds (rowOf (one n) j k) c)
+  unfolding holds
+  more-held n w c =
+      ap (λ (t : Bool). t && between (one j) (c .j) && between (one k) (c .k)) (upto-more e n w (c .i))
+      ∙ share-two (between (upto e n) (c .i)) (between (one n) (c .i)) (between (one j) (c .j)) (between (one k) (c .k))
+
+  pub done-held : (n : ℕ) → Walk e n → e .to ≤ n → (c : Cell) → holds (rowOf (upto e n) j k) c ≡ holds (rowOf e j k) c
+  unfolding holds
+  done-held n w h c = ap (λ (t : Bool). t && between (one j) (c .j) && between (one k) (c .k)) (upto-done e n w h (c .i))
+
+  pub held-left : (s : Slabs) (a : Ends) → Cut e (rowOnI s j k) a → (c : Cell) → holds (rowOf a j k) c ≡ leftIn (rowOf e j k) s c
+  unfolding holds
+  held-left s a w c = go (between (one j) (c .j)) (between (one k) (c .k)) refl refl
+    where
+      x : Bool
+      x = between a (c .i)
+
+      y : Bool
+      y = between e (c .i)
+
+      both : (x y k : Bool) → x ≡ (y && k) → (x && true && true) ≡ (y && true && true && k)
+      both true true k h = h
+      both false true k h = h
+      both true false k h = h
+      both false false k h = h
+
+      no-j : (x y z k : Bool) → (x && false && z) ≡ (y && false && z && k)
+      no-j true true z k = refl
+      no-j true false z k = refl
+      no-j false true z k = refl
+      no-j false false z k = refl
+
+      no-k : (x y k : Bool) → (x && true && false) ≡ (y && true && false && k)
+      no-k true true k = refl
+      no-k true false k = refl
+      no-k false true k = refl
+      no-k false false k = refl
+
+      go : (p q : Bool) → between (one j) (c .j) ≡ p → between (one k) (c .k) ≡ q → (x && p && q) ≡ (y && p && q && keptAll s c)
+      go true true f g =
+          let d = cell-path c (record { i = c .i; j = j; k = k }) refl (one-is j (c .j) f) (one-is k (c .k) g) in
+          both x y (keptAll s c) (w .places (c .i) ∙ ap (λ (t : Bool). y && t) (sym (ap (keptAll s) d)))
+      go true false f g = no-k x y (keptAll s c)
+      go false q f g = no-j x y q (keptAll s c)
 
 -- ---- a loop along an axis that stands at n, and has painted a set
 

@@ -1,5 +1,4 @@
 // Marking: which cells the steel passes through.
-ghost use mathlib.Core.Bool.{cond};
 ghost use mathlib.Core.Path.{_≡_};
 ghost use Prim.Native.Nat.{_≤_, _<_};
 ghost use lib.ListN.{length, replicate};
@@ -39,26 +38,19 @@ fn clear(labels: &mut [u8])
     }
 }
 
-fn mark_if(touched: bool, label: u8) -> u8
-    ensures { λ v. ⌜ v ≡ cond touched 8 label ⌝ }
-{
-    if touched { 8 } else { label }
-}
-
-// The cells of a row, in memory order.
+// The part of a row that the slabs leave, in memory order.
 fn mark_row(labels: &mut [u8], s: Slabs, r: Axes, e: Ends, j: usize, k: usize)
     requires { ⌜ Sheet r (now labels) ⌝ }
     requires { ⌜ SlabsFit s ⌝ }
     requires { ⌜ (e .to ≤ r .r0) × (j < r .r1) × (k < r .r2) ⌝ }
     ensures { λ _. ⌜ Painted r (leftIn (rowOf e j k) s) (now (labels .entry)) (now (labels .exit)) ⌝ }
 {
-    let to = e.to;
-    let mut i = e.from;
+    let left = intervals::row_along_i(s, e, j, k);
+    let to = left.to;
+    let mut i = left.from;
     while i < to {
-        let c = Cell { i, j, k };
-        let n = grid::number(r, c);
-        let v = mark_if(touch::within(s, c), labels[n]);
-        labels[n] = v;
+        let n = grid::number(r, Cell { i, j, k });
+        labels[n] = 8;
         i += 1;
     }
 }

@@ -1,0 +1,57 @@
+-- What cutting a row of places leaves of it: the places x where step * x is from low to high, and the cells of a row that slabs leave. Definitions only.
+use mathlib.Core.Bool.{Bool, _&&_}
+use mathlib.Core.Path.{_≡_}
+use Prim.Native.Nat.{ℕ, _≤_, _<_, _^_}
+use lib.Dec.{leb, ltb}
+use lib.IntN.{ℤ, pos, _*ℤ_}
+use lib.Signed.{leZ}
+use Rattle.touch.specs.declared.Slab.{Slab}
+use Rattle.touch.specs.declared.Three.{Three}
+use Rattle.touch.specs.declared.Slabs.{Slabs}
+use Rattle.touch.specs.Slabs.{kept, keptThree, keptAll}
+use Rattle.mesh.specs.declared.Ends.{Ends}
+use Rattle.mesh.specs.Ranges.{between}
+
+-- step * x is from low to high
+abbrev pub lies : ℤ → ℤ → ℤ → ℕ → Bool
+lies step low high x = leZ low (step *ℤ pos x) && leZ (step *ℤ pos x) high
+
+-- a has the places of e that `keeps` keeps, and ends no later
+pub record Cut (e : Ends) (keeps : ℕ → Bool) (a : Ends) : Type 0 where
+  pub places : (x : ℕ) → between a x ≡ (between e x && keeps x)
+  pub within : a .to ≤ e .to
+
+-- a step above 0
+pub record Rising (step : ℤ) : Type 0 where
+  pub size : ℕ
+  pub is : step ≡ pos size
+  pub some : 0 < size
+  pub small : size ≤ 2 ^ 49
+
+-- from n on, and not before, the places past `from` have reached low; before n, and not from there on, those before `to` are not above high
+pub record First (step low : ℤ) (from n : ℕ) : Type 0 where
+  pub after : from ≤ n
+  pub reached : (x : ℕ) → from ≤ x → leZ low (step *ℤ pos x) ≡ leb n x
+
+pub record Past (step high : ℤ) (to n : ℕ) : Type 0 where
+  pub before : n ≤ to
+  pub under : (x : ℕ) → x < to → leZ (step *ℤ pos x) high ≡ ltb x n
+
+-- the cells of a row along i, and along k, that are left
+abbrev pub onI : Slab → ℤ → ℤ → ℕ → Bool
+onI s j k x = kept s (pos x) j k
+
+abbrev pub threeOnI : Three → ℤ → ℤ → ℕ → Bool
+threeOnI t j k x = keptThree t (pos x) j k
+
+abbrev pub rowOnI : Slabs → ℕ → ℕ → ℕ → Bool
+rowOnI s j k x = keptAll s (record { i = x; j = j; k = k })
+
+abbrev pub onK : Slab → ℤ → ℤ → ℕ → Bool
+onK s i j x = kept s i j (pos x)
+
+abbrev pub threeOnK : Three → ℤ → ℤ → ℕ → Bool
+threeOnK t i j x = keptThree t i j (pos x)
+
+abbrev pub rowOnK : Slabs → ℕ → ℕ → ℕ → Bool
+rowOnK s i j x = keptAll s (record { i = i; j = j; k = x })
