@@ -396,3 +396,20 @@ layer-all s f i j k =
         && (free-x (s .edge01) e x y z t && free-x (s .edge12) g x y z t && free-x (s .edge20) h x y z t)
         && (free-y (s .edge01) e x y z t && free-y (s .edge12) g x y z t && free-y (s .edge20) h x y z t)
         && (kept (s .normal) x y z && free-z (s .edge01) e x y z t && free-z (s .edge12) g x y z t && free-z (s .edge20) h x y z t))
+
+-- a cell that the thirteen leave is left by each group of them
+module _ (s : Slabs) (f : SlabsFit s) (i j k : ℕ) (h : keptAll s (record { i = i; j = j; k = k }) ≡ true) where
+  parts-kept : ((axesLeave (s .axes) (record { i = i; j = j; k = k }) ≡ true) × (acrossX s k j ≡ true)) × (acrossY s k i ≡ true)
+  parts-kept =
+      let h1 = both-true (axesLeave (s .axes) (record { i = i; j = j; k = k }) && acrossX s k j && acrossY s k i) (restOfRow s j k i) (sym (layer-all s f i j k) ∙ h) in
+      let h2 = both-true (axesLeave (s .axes) (record { i = i; j = j; k = k }) && acrossX s k j) (acrossY s k i) (h1 .0) in
+      (both-true (axesLeave (s .axes) (record { i = i; j = j; k = k })) (acrossX s k j) (h2 .0), h2 .1)
+
+  pub kept-axes : axesLeave (s .axes) (record { i = i; j = j; k = k }) ≡ true
+  kept-axes = parts-kept .0 .0
+
+  pub kept-x : acrossX s k j ≡ true
+  kept-x = parts-kept .0 .1
+
+  pub kept-y : acrossY s k i ≡ true
+  kept-y = parts-kept .1
