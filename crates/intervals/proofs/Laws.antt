@@ -14,12 +14,16 @@ use mir.Syntax.{w64}
 use mir.Val.{toZ, ofZ}
 use Rattle.ints.specs.Bound.{In, Val, arg, lit, minus, in-eq}
 use Rattle.ints.specs.Order.{same-test, le-not, leZ-neg, lt-less, lt-more}
-use Rattle.ints.specs.Ring.{mul-neg}
+use Rattle.ints.specs.Ring.{mul-neg, last-two}
 use Rattle.touch.specs.declared.Slab.{Slab}
-use Rattle.touch.proofs.Laws.{signed}
+use Rattle.touch.specs.declared.Three.{Three}
+use Rattle.touch.specs.declared.Slabs.{Slabs}
+use Rattle.touch.specs.Slabs.{kept, keptThree, keptAll, Flat, Axial, SlabsFit}
+use Rattle.touch.proofs.Laws.{signed, axes-are, products-are}
 use Rattle.mesh.specs.declared.Ends.{Ends}
-use Rattle.mesh.specs.Ranges.{between}
-use Rattle.intervals.specs.Intervals.{lies, Cut, Rising, First, Past, onI, onK}
+use Rattle.mesh.specs.declared.Block.{Block}
+use Rattle.mesh.specs.Ranges.{between, holds}
+use Rattle.intervals.specs.Intervals.{lies, Cut, Rising, First, Past, Clipped, onI, onJ, onK, acrossX, acrossY, restOfRow, axesLeave}
 
 -- ---- tests
 
@@ -269,7 +273,143 @@ line-i s j k x =
     let p = sym (+ℤ-assoc (s .x *ℤ pos x) (s .y *ℤ j) (s .z *ℤ k)) in
     shifted (s .low) (s .high) (s .y *ℤ j +ℤ s .z *ℤ k) (s .x *ℤ pos x) ∙ (λ t. leZ (s .low) (p t) && leZ (p t) (s .high))
 
+pub line-j : (s : Slab) (i k : ℤ) (x : ℕ) → lies (s .y) (s .low -ℤ (s .x *ℤ i +ℤ s .z *ℤ k)) (s .high -ℤ (s .x *ℤ i +ℤ s .z *ℤ k)) x ≡ onJ s i k x
+line-j s i k x =
+    let p = +ℤ-comm (s .y *ℤ pos x) (s .x *ℤ i +ℤ s .z *ℤ k) ∙ last-two (s .x *ℤ i) (s .z *ℤ k) (s .y *ℤ pos x) in
+    shifted (s .low) (s .high) (s .x *ℤ i +ℤ s .z *ℤ k) (s .y *ℤ pos x) ∙ (λ t. leZ (s .low) (p t) && leZ (p t) (s .high))
+
 pub line-k : (s : Slab) (i j : ℤ) (x : ℕ) → lies (s .z) (s .low -ℤ (s .x *ℤ i +ℤ s .y *ℤ j)) (s .high -ℤ (s .x *ℤ i +ℤ s .y *ℤ j)) x ≡ onK s i j x
 line-k s i j x =
     let p = +ℤ-comm (s .z *ℤ pos x) (s .x *ℤ i +ℤ s .y *ℤ j) in
     shifted (s .low) (s .high) (s .x *ℤ i +ℤ s .y *ℤ j) (s .z *ℤ pos x) ∙ (λ t. leZ (s .low) (p t) && leZ (p t) (s .high))
+
+-- ---- what a direction says nothing of
+
+keeps-at : (s : Slab) {v w : ℤ} → v ≡ w → (leZ (s .low) v && leZ v (s .high)) ≡ (leZ (s .low) w && leZ w (s .high))
+keeps-at s p = λ t. leZ (s .low) (p t) && leZ (p t) (s .high)
+
+module _ (s : Three) (h : Flat s) (i j k : ℤ) where
+  free-x : kept (s .x) i j k ≡ kept (s .x) (pos 0) j k
+  free-x = keeps-at (s .x) (sym (products-are s h i j k .0) ∙ products-are s h (pos 0) j k .0)
+
+  free-y : kept (s .y) i j k ≡ kept (s .y) i (pos 0) k
+  free-y = keeps-at (s .y) (sym (products-are s h i j k .1) ∙ products-are s h i (pos 0) k .1)
+
+  free-z : kept (s .z) i j k ≡ kept (s .z) i j (pos 0)
+  free-z = keeps-at (s .z) (sym (products-are s h i j k .2) ∙ products-are s h i j (pos 0) .2)
+
+module _ (s : Three) (h : Axial s) (i j k : ℤ) where
+  only-x : kept (s .x) i (pos 0) (pos 0) ≡ kept (s .x) i j k
+  only-x = keeps-at (s .x) (sym (axes-are s h i (pos 0) (pos 0) .0) ∙ axes-are s h i j k .0)
+
+  only-y : kept (s .y) (pos 0) j (pos 0) ≡ kept (s .y) i j k
+  only-y = keeps-at (s .y) (sym (axes-are s h (pos 0) j (pos 0) .1) ∙ axes-are s h i j k .1)
+
+  only-z : kept (s .z) (pos 0) (pos 0) k ≡ kept (s .z) i j k
+  only-z = keeps-at (s .z) (sym (axes-are s h (pos 0) (pos 0) k .2) ∙ axes-are s h i j k .2)
+
+-- ---- a block, cut along each axis
+
+exchange : (a b c d : Bool) → ((a && b) && (c && d)) ≡ ((a && c) && (b && d))
+exchange true b true d = refl
+exchange true true false d = refl
+exchange true false false d = refl
+exchange false b c d = refl
+
+pub clipped : (s : Three) (b a : Block) → Axial s → Cut (b .i) (onI (s .x) (pos 0) (pos 0)) (a .i) → Cut (b .j) (onJ (s .y) (pos 0) (pos 0)) (a .j) → Cut (b .k) (onK (s .z) (pos 0) (pos 0)) (a .k) → Clipped s b a
+unfolding holds
+clipped s b a h u v w =
+    record {
+      cells = λ c.
+          let i = pos (c .i) in
+          let j = pos (c .j) in
+          let k = pos (c .k) in
+          let x = u .places (c .i) ∙ ap (λ (t : Bool). between (b .i) (c .i) && t) (only-x s h i j k) in
+          let y = v .places (c .j) ∙ ap (λ (t : Bool). between (b .j) (c .j) && t) (only-y s h i j k) in
+          let z = w .places (c .k) ∙ ap (λ (t : Bool). between (b .k) (c .k) && t) (only-z s h i j k) in
+          (λ t. x t && y t && z t)
+          ∙ ap (λ (t : Bool). t && (between (b .k) (c .k) && kept (s .z) i j k)) (exchange (between (b .i) (c .i)) (kept (s .x) i j k) (between (b .j) (c .j)) (kept (s .y) i j k))
+          ∙ exchange (between (b .i) (c .i) && between (b .j) (c .j)) (kept (s .x) i j k && kept (s .y) i j k) (between (b .k) (c .k)) (kept (s .z) i j k);
+      i-within = u .within;
+      j-within = v .within;
+      k-within = w .within;
+    }
+
+-- ---- the thirteen, by what each says nothing of
+
+-- each of a number of tests: from the whole to each, and back
+module _ (a n x y z u v w p q r : Bool) where
+  grouped : (a && n && (x && y && z) && (u && v && w) && (p && q && r)) ≡ (a && (x && u && p) && (y && v && q) && (n && z && w && r))
+  grouped = alike _ _ (λ h. forth h) (λ h. back h)
+    where
+      alike : (s t : Bool) → (s ≡ true → t ≡ true) → (t ≡ true → s ≡ true) → s ≡ t
+      alike true t f g = sym (f refl)
+      alike false true f g = g refl
+      alike false false f g = refl
+
+      forth : (a && n && (x && y && z) && (u && v && w) && (p && q && r)) ≡ true → (a && (x && u && p) && (y && v && q) && (n && z && w && r)) ≡ true
+      forth h =
+          let h1 = both-true (a && n && (x && y && z) && (u && v && w)) (p && q && r) h in
+          let h2 = both-true (a && n && (x && y && z)) (u && v && w) (h1 .0) in
+          let h3 = both-true (a && n) (x && y && z) (h2 .0) in
+          let h4 = both-true a n (h3 .0) in
+          let e = three x y z (h3 .1) in
+          let f = three u v w (h2 .1) in
+          let g = three p q r (h1 .1) in
+          rw (h4 .0, h4 .1, e .0, e .1, e .2, f .0, f .1, f .2, g .0, g .1, g .2)
+        where
+          three : (b c d : Bool) → (b && c && d) ≡ true → (b ≡ true) × (c ≡ true) × (d ≡ true)
+          three true true true h = (refl, refl, refl)
+          three true true false h = (refl, refl, h)
+          three true false d h = absurd (not-both h refl)
+          three false c d h = absurd (not-both h refl)
+
+      back : (a && (x && u && p) && (y && v && q) && (n && z && w && r)) ≡ true → (a && n && (x && y && z) && (u && v && w) && (p && q && r)) ≡ true
+      back h =
+          let h1 = both-true (a && (x && u && p) && (y && v && q)) (n && z && w && r) h in
+          let h2 = both-true (a && (x && u && p)) (y && v && q) (h1 .0) in
+          let h3 = both-true a (x && u && p) (h2 .0) in
+          let e = three x u p (h3 .1) in
+          let f = three y v q (h2 .1) in
+          let g = both-true (n && z && w) r (h1 .1) in
+          let k = three n z w (g .0) in
+          rw (h3 .0, e .0, e .1, e .2, f .0, f .1, f .2, k .0, k .1, k .2, g .1)
+        where
+          three : (b c d : Bool) → (b && c && d) ≡ true → (b ≡ true) × (c ≡ true) × (d ≡ true)
+          three true true true h = (refl, refl, refl)
+          three true true false h = (refl, refl, h)
+          three true false d h = absurd (not-both h refl)
+          three false c d h = absurd (not-both h refl)
+
+pub layer-all : (s : Slabs) → SlabsFit s → (i j k : ℕ) → keptAll s (record { i = i; j = j; k = k }) ≡ (axesLeave (s .axes) (record { i = i; j = j; k = k }) && acrossX s k j && acrossY s k i && restOfRow s j k i)
+unfolding keptAll
+layer-all s f i j k =
+    let x = pos i in
+    let y = pos j in
+    let z = pos k in
+    let e = f .edge01-flat in
+    let g = f .edge12-flat in
+    let h = f .edge20-flat in
+    grouped (keptThree (s .axes) x y z) (kept (s .normal) x y z) (kept (s .edge01 .x) x y z) (kept (s .edge01 .y) x y z) (kept (s .edge01 .z) x y z) (kept (s .edge12 .x) x y z) (kept (s .edge12 .y) x y z) (kept (s .edge12 .z) x y z) (kept (s .edge20 .x) x y z) (kept (s .edge20 .y) x y z) (kept (s .edge20 .z) x y z)
+    ∙ (λ t.
+        keptThree (s .axes) x y z
+        && (free-x (s .edge01) e x y z t && free-x (s .edge12) g x y z t && free-x (s .edge20) h x y z t)
+        && (free-y (s .edge01) e x y z t && free-y (s .edge12) g x y z t && free-y (s .edge20) h x y z t)
+        && (kept (s .normal) x y z && free-z (s .edge01) e x y z t && free-z (s .edge12) g x y z t && free-z (s .edge20) h x y z t))
+
+-- a cell that the thirteen leave is left by each group of them
+module _ (s : Slabs) (f : SlabsFit s) (i j k : ℕ) (h : keptAll s (record { i = i; j = j; k = k }) ≡ true) where
+  parts-kept : ((axesLeave (s .axes) (record { i = i; j = j; k = k }) ≡ true) × (acrossX s k j ≡ true)) × (acrossY s k i ≡ true)
+  parts-kept =
+      let h1 = both-true (axesLeave (s .axes) (record { i = i; j = j; k = k }) && acrossX s k j && acrossY s k i) (restOfRow s j k i) (sym (layer-all s f i j k) ∙ h) in
+      let h2 = both-true (axesLeave (s .axes) (record { i = i; j = j; k = k }) && acrossX s k j) (acrossY s k i) (h1 .0) in
+      (both-true (axesLeave (s .axes) (record { i = i; j = j; k = k })) (acrossX s k j) (h2 .0), h2 .1)
+
+  pub kept-axes : axesLeave (s .axes) (record { i = i; j = j; k = k }) ≡ true
+  kept-axes = parts-kept .0 .0
+
+  pub kept-x : acrossX s k j ≡ true
+  kept-x = parts-kept .0 .1
+
+  pub kept-y : acrossY s k i ≡ true
+  kept-y = parts-kept .1

@@ -9,8 +9,10 @@ use Rattle.touch.specs.declared.Slab.{Slab}
 use Rattle.touch.specs.declared.Three.{Three}
 use Rattle.touch.specs.declared.Slabs.{Slabs}
 use Rattle.touch.specs.Slabs.{kept, keptThree, keptAll}
+use Rattle.grid.specs.declared.Cell.{Cell}
 use Rattle.mesh.specs.declared.Ends.{Ends}
-use Rattle.mesh.specs.Ranges.{between}
+use Rattle.mesh.specs.declared.Block.{Block}
+use Rattle.mesh.specs.Ranges.{between, holds}
 
 -- step * x is from low to high
 abbrev pub lies : ℤ → ℤ → ℤ → ℕ → Bool
@@ -37,15 +39,12 @@ pub record Past (step high : ℤ) (to n : ℕ) : Type 0 where
   pub before : n ≤ to
   pub under : (x : ℕ) → x < to → leZ (step *ℤ pos x) high ≡ ltb x n
 
--- the cells of a row along i, and along k, that are left
+-- the cells of a row along i, along j and along k that are left
 abbrev pub onI : Slab → ℤ → ℤ → ℕ → Bool
 onI s j k x = kept s (pos x) j k
 
-abbrev pub threeOnI : Three → ℤ → ℤ → ℕ → Bool
-threeOnI t j k x = keptThree t (pos x) j k
-
-abbrev pub rowOnI : Slabs → ℕ → ℕ → ℕ → Bool
-rowOnI s j k x = keptAll s (record { i = x; j = j; k = k })
+abbrev pub onJ : Slab → ℤ → ℤ → ℕ → Bool
+onJ s i k x = kept s i (pos x) k
 
 abbrev pub onK : Slab → ℤ → ℤ → ℕ → Bool
 onK s i j x = kept s i j (pos x)
@@ -55,3 +54,24 @@ threeOnK t i j x = keptThree t i j (pos x)
 
 abbrev pub rowOnK : Slabs → ℕ → ℕ → ℕ → Bool
 rowOnK s i j x = keptAll s (record { i = i; j = j; k = x })
+
+-- what the thirteen come to in a layer: the products with x say nothing of i, those with y nothing of j, those with z nothing of k (`layer-all` in proofs/Laws.antt)
+abbrev pub acrossX : Slabs → ℕ → ℕ → Bool
+acrossX s k j = kept (s .edge01 .x) (pos 0) (pos j) (pos k) && kept (s .edge12 .x) (pos 0) (pos j) (pos k) && kept (s .edge20 .x) (pos 0) (pos j) (pos k)
+
+abbrev pub acrossY : Slabs → ℕ → ℕ → Bool
+acrossY s k i = kept (s .edge01 .y) (pos i) (pos 0) (pos k) && kept (s .edge12 .y) (pos i) (pos 0) (pos k) && kept (s .edge20 .y) (pos i) (pos 0) (pos k)
+
+abbrev pub restOfRow : Slabs → ℕ → ℕ → ℕ → Bool
+restOfRow s j k i =
+    kept (s .normal) (pos i) (pos j) (pos k) && kept (s .edge01 .z) (pos i) (pos j) (pos 0) && kept (s .edge12 .z) (pos i) (pos j) (pos 0) && kept (s .edge20 .z) (pos i) (pos j) (pos 0)
+
+abbrev pub axesLeave : Three → Cell → Bool
+axesLeave s c = keptThree s (pos (c .i)) (pos (c .j)) (pos (c .k))
+
+-- a has the cells of b that the axes leave, and ends no later
+pub record Clipped (axes : Three) (b a : Block) : Type 0 where
+  pub cells : (c : Cell) → holds a c ≡ (holds b c && axesLeave axes c)
+  pub i-within : a .i .to ≤ b .i .to
+  pub j-within : a .j .to ≤ b .j .to
+  pub k-within : a .k .to ≤ b .k .to

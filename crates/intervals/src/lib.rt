@@ -7,8 +7,9 @@ ghost use Prim.Native.Nat.{_/_, _+_, _-_, _≤_, _<_, _^_};
 ghost use lib.IntN.{pos, _*ℤ_};
 ghost use lib.Signed.{leZ};
 ghost use Rattle.ints.specs.Bound.{In};
-ghost use Rattle.touch.specs.Slabs.{SlabFits, ThreeFit, SlabsFit};
-ghost use Rattle.intervals.specs.Intervals.{lies, Cut, Rising, First, Past, onI, threeOnI, rowOnI, onK, threeOnK, rowOnK};
+ghost use Rattle.touch.specs.Slabs.{SlabFits, ThreeFit, Axial, SlabsFit};
+ghost use Rattle.intervals.specs.Intervals.{lies, Cut, Rising, First, Past, Clipped, onI, onJ, onK, acrossX, acrossY, restOfRow, threeOnK, rowOnK};
+use mesh::Block;
 use mesh::Ends;
 use touch::Slab;
 use touch::Slabs;
@@ -94,27 +95,55 @@ fn slab_along_i(e: Ends, s: Slab, j: i64, k: i64) -> Ends
     cut(e, s.x, s.low - base, s.high - base)
 }
 
-fn three_along_i(e: Ends, t: Three, j: i64, k: i64) -> Ends
-    requires { ⌜ (e .to ≤ 256) × ThreeFit t × In 255 j × In 255 k ⌝ }
-    ensures { λ a. ⌜ Cut e (threeOnI t j k) a ⌝ }
+// In layer k, the places i that the products of the edges with y leave, whatever j is.
+pub fn layer_along_i(s: Slabs, e: Ends, k: usize) -> Ends
+    requires { ⌜ (e .to ≤ 256) × SlabsFit s × (k < 256) ⌝ }
+    ensures { λ a. ⌜ Cut e (acrossY s k) a ⌝ }
 {
-    let x = slab_along_i(e, t.x, j, k);
-    let y = slab_along_i(x, t.y, j, k);
-    slab_along_i(y, t.z, j, k)
+    let z = k as i64;
+    let edge01 = slab_along_i(e, s.edge01.y, 0, z);
+    let edge12 = slab_along_i(edge01, s.edge12.y, 0, z);
+    slab_along_i(edge12, s.edge20.y, 0, z)
 }
 
-// The places i of e where the thirteen leave the cell (i, j, k).
-pub fn row_along_i(s: Slabs, e: Ends, j: usize, k: usize) -> Ends
+// In row (j, k), the places i that the other directions leave: the normal, and the products with z.
+pub fn rest_along_i(s: Slabs, e: Ends, j: usize, k: usize) -> Ends
     requires { ⌜ (e .to ≤ 256) × SlabsFit s × (j < 256) × (k < 256) ⌝ }
-    ensures { λ a. ⌜ Cut e (rowOnI s j k) a ⌝ }
+    ensures { λ a. ⌜ Cut e (restOfRow s j k) a ⌝ }
 {
     let y = j as i64;
     let z = k as i64;
-    let axes = three_along_i(e, s.axes, y, z);
-    let normal = slab_along_i(axes, s.normal, y, z);
-    let edge01 = three_along_i(normal, s.edge01, y, z);
-    let edge12 = three_along_i(edge01, s.edge12, y, z);
-    three_along_i(edge12, s.edge20, y, z)
+    let normal = slab_along_i(e, s.normal, y, z);
+    let edge01 = slab_along_i(normal, s.edge01.z, y, 0);
+    let edge12 = slab_along_i(edge01, s.edge12.z, y, 0);
+    slab_along_i(edge12, s.edge20.z, y, 0)
+}
+
+// ---- a row along j
+
+// The places j of e where a slab leaves the cell (i, j, k).
+fn slab_along_j(e: Ends, s: Slab, i: i64, k: i64) -> Ends
+    requires { ⌜ (e .to ≤ 256) × SlabFits s × In 255 i × In 255 k ⌝ }
+    ensures { λ a. ⌜ Cut e (onJ s i k) a ⌝ }
+{
+    let from = e.from;
+    let to = e.to;
+    if to <= from {
+        return e;
+    }
+    let base = s.x * i + s.z * k;
+    cut(e, s.y, s.low - base, s.high - base)
+}
+
+// In layer k, the places j that the products of the edges with x leave, whatever i is.
+pub fn layer_along_j(s: Slabs, e: Ends, k: usize) -> Ends
+    requires { ⌜ (e .to ≤ 256) × SlabsFit s × (k < 256) ⌝ }
+    ensures { λ a. ⌜ Cut e (acrossX s k) a ⌝ }
+{
+    let z = k as i64;
+    let edge01 = slab_along_j(e, s.edge01.x, 0, z);
+    let edge12 = slab_along_j(edge01, s.edge12.x, 0, z);
+    slab_along_j(edge12, s.edge20.x, 0, z)
 }
 
 // ---- a row along k
@@ -154,4 +183,18 @@ pub fn row_along_k(s: Slabs, e: Ends, i: usize, j: usize) -> Ends
     let edge01 = three_along_k(normal, s.edge01, x, y);
     let edge12 = three_along_k(edge01, s.edge12, x, y);
     three_along_k(edge12, s.edge20, x, y)
+}
+
+// ---- a block
+
+// The cells of a block that the axes leave.
+pub fn clip(axes: Three, b: Block) -> Block
+    requires { ⌜ (b .i .to ≤ 256) × (b .j .to ≤ 256) × (b .k .to ≤ 256) ⌝ }
+    requires { ⌜ ThreeFit axes × Axial axes ⌝ }
+    ensures { λ a. ⌜ Clipped axes b a ⌝ }
+{
+    let i = slab_along_i(b.i, axes.x, 0, 0);
+    let j = slab_along_j(b.j, axes.y, 0, 0);
+    let k = slab_along_k(b.k, axes.z, 0, 0);
+    Block { i, j, k }
 }

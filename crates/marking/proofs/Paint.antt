@@ -16,15 +16,16 @@ use Rattle.grid.proofs.First.{le-or-lt, both-true}
 use Rattle.grid.proofs.Cells.{cell-path, sheet-kept, stored}
 use Rattle.touch.specs.declared.Slabs.{Slabs}
 use Rattle.touch.specs.Touch.{touching}
-use Rattle.touch.specs.Slabs.{keptAll, slabsOf}
+use Rattle.touch.specs.Slabs.{keptAll, slabsOf, SlabsFit}
 use Rattle.touch.proofs.Laws.{slabs-touch}
 use Rattle.mesh.specs.declared.Ends.{Ends}
 use Rattle.mesh.specs.declared.Block.{Block}
 use Rattle.mesh.specs.Mesh.{isCandidate}
 use Rattle.mesh.specs.Ranges.{BlockOf, between, holds}
 use Rattle.mesh.proofs.Laws.{block-test}
-use Rattle.intervals.specs.Intervals.{Cut, rowOnI}
-use Rattle.marking.specs.Painted.{Painted, leftIn, one, rowOf}
+use Rattle.intervals.specs.Intervals.{Cut, Clipped, axesLeave, acrossX, acrossY, restOfRow}
+use Rattle.intervals.proofs.Laws.{layer-all, kept-axes, kept-x, kept-y}
+use Rattle.marking.specs.Painted.{Painted, leftIn, one, rowOf, layerOf, AxesLeave, RowRest}
 
 -- ---- painting
 
@@ -261,15 +262,18 @@ module _ (e : Ends) (j k : ℕ) where
   unfolding holds
   done-held n w h c = ap (λ (t : Bool). t && between (one j) (c .j) && between (one k) (c .k)) (upto-done e n w h (c .i))
 
-  pub held-left : (s : Slabs) (a : Ends) → Cut e (rowOnI s j k) a → (c : Cell) → holds (rowOf a j k) c ≡ leftIn (rowOf e j k) s c
+  pub held-left : (s : Slabs) (a : Ends) → RowRest s e j k → Cut e (restOfRow s j k) a → (c : Cell) → holds (rowOf a j k) c ≡ leftIn (rowOf e j k) s c
   unfolding holds
-  held-left s a w c = go (between (one j) (c .j)) (between (one k) (c .k)) refl refl
+  held-left s a u w c = go (between (one j) (c .j)) (between (one k) (c .k)) refl refl
     where
       x : Bool
       x = between a (c .i)
 
       y : Bool
       y = between e (c .i)
+
+      d : Cell
+      d = record { i = c .i; j = j; k = k }
 
       both : (x y k : Bool) → x ≡ (y && k) → (x && true && true) ≡ (y && true && true && k)
       both true true k h = h
@@ -289,12 +293,77 @@ module _ (e : Ends) (j k : ℕ) where
       no-k false true k = refl
       no-k false false k = refl
 
+      whole : (t : Bool) → between e (c .i) ≡ t → (t && restOfRow s j k (c .i)) ≡ (t && keptAll s d)
+      whole true f = sym (u .rest (c .i) f)
+      whole false f = refl
+
       go : (p q : Bool) → between (one j) (c .j) ≡ p → between (one k) (c .k) ≡ q → (x && p && q) ≡ (y && p && q && keptAll s c)
       go true true f g =
-          let d = cell-path c (record { i = c .i; j = j; k = k }) refl (one-is j (c .j) f) (one-is k (c .k) g) in
-          both x y (keptAll s c) (w .places (c .i) ∙ ap (λ (t : Bool). y && t) (sym (ap (keptAll s) d)))
+          both x y (keptAll s c) (w .places (c .i) ∙ whole y refl ∙ ap (λ (t : Bool). y && t) (sym (ap (keptAll s) (cell-path c d refl (one-is j (c .j) f) (one-is k (c .k) g)))))
       go true false f g = no-k x y (keptAll s c)
       go false q f g = no-j x y q (keptAll s c)
+
+-- ---- a layer of a block that the axes leave
+
+pub layer-axes : (s : Slabs) (b : Block) (k : ℕ) → AxesLeave s b → b .k .from ≤ k → k < b .k .to → AxesLeave s (layerOf b k)
+unfolding holds
+layer-axes s b k u h l =
+    record {
+      leave = λ c g.
+          let i = between (b .i) (c .i) in
+          let j = between (b .j) (c .j) in
+          let e = one-is k (c .k) (both-true (i && j) (between (one k) (c .k)) g .1) in
+          let f : between (b .k) (c .k) ≡ true = ap (between (b .k)) e ∙ rw (le-leb (b .k .from) k h, lt-ltb k (b .k .to) l) in
+          u .leave c (rw (both-true (i && j) (between (one k) (c .k)) g .0, f));
+    }
+
+-- cut along i and along j: what is left to test in a row, and that no cell is lost
+module _ (s : Slabs) (fit : SlabsFit s) (b : Block) (k : ℕ) (e f : Ends) (v : Cut (b .i) (acrossY s k) e) (w : Cut (b .j) (acrossX s k) f) where
+  pub row-rest : AxesLeave s (layerOf b k) → (j : ℕ) → f .from ≤ j → j < f .to → RowRest s e j k
+  unfolding holds
+  row-rest u j h l =
+      record {
+        rest = λ x g.
+            let a = both-true (between (b .i) x) (acrossY s k x) (sym (v .places x) ∙ g) in
+            let here : between f j ≡ true = rw (le-leb (f .from) j h, lt-ltb j (f .to) l) in
+            let d = both-true (between (b .j) j) (acrossX s k j) (sym (w .places j) ∙ here) in
+            let axes = u .leave (record { i = x; j = j; k = k }) (rw (a .0, d .0, one-here k)) in
+            layer-all s fit x j k ∙ rw (axes, d .1, a .1);
+      }
+
+  pub layer-left : (c : Cell) → leftIn (record { i = e; j = f; k = one k }) s c ≡ leftIn (layerOf b k) s c
+  unfolding holds
+  layer-left c = (λ t. v .places (c .i) t && w .places (c .j) t && between (one k) (c .k) && keptAll s c) ∙ go (between (one k) (c .k)) (keptAll s c) refl refl
+    where
+      x : Bool
+      x = between (b .i) (c .i)
+
+      y : Bool
+      y = between (b .j) (c .j)
+
+      none : (a d : Bool) → (a && d && false) ≡ false
+      none true true = refl
+      none true false = refl
+      none false d = refl
+
+      lost : (a d : Bool) → (a && d && true && false) ≡ false
+      lost true true = refl
+      lost true false = refl
+      lost false d = refl
+
+      go : (p q : Bool) → between (one k) (c .k) ≡ p → keptAll s c ≡ q → ((x && acrossY s k (c .i)) && (y && acrossX s k (c .j)) && p && q) ≡ (x && y && p && q)
+      go true true g h =
+          let d = cell-path c (record { i = c .i; j = c .j; k = k }) refl refl (one-is k (c .k) g) in
+          let all = sym (ap (keptAll s) d) ∙ h in
+          (λ t. (x && kept-y s fit (c .i) (c .j) k all t) && (y && kept-x s fit (c .i) (c .j) k all t) && true && true) ∙ plain x y
+        where
+          plain : (a d : Bool) → ((a && true) && (d && true) && true && true) ≡ (a && d && true && true)
+          plain true true = refl
+          plain true false = refl
+          plain false d = refl
+      go true false g h = lost (x && acrossY s k (c .i)) (y && acrossX s k (c .j)) ∙ sym (lost x y)
+      go false q g h =
+          ap (λ (t : Bool). t && q) (none (x && acrossY s k (c .i)) (y && acrossX s k (c .j))) ∙ sym (ap (λ (t : Bool). t && q) (none x y))
 
 -- ---- a loop along an axis that stands at n, and has painted a set
 
@@ -316,3 +385,19 @@ module _ (r : Axes) (e : Ends) where
 pub left-hits : (t : List (List ℤ)) (r : Axes) (b : Block) (s : Slabs) → BlockOf t r b → s ≡ slabsOf t → (c : Cell) → leftIn b s c ≡ (isCandidate t r c && touching t c)
 left-hits t r b s w e c =
     ap (λ (x : Bool). x && keptAll s c) (block-test t r b w c) ∙ ap (λ (x : Bool). isCandidate t r c && x) (ap (λ (x : Slabs). keptAll x c) e ∙ slabs-touch t c)
+
+-- and nothing of it is lost where the axes cut the block
+pub clip-left : (s : Slabs) (b a : Block) → SlabsFit s → Clipped (s .axes) b a → (c : Cell) → leftIn a s c ≡ leftIn b s c
+clip-left s b a f w c = ap (λ (t : Bool). t && keptAll s c) (w .cells c) ∙ go (keptAll s c) refl
+  where
+    none : (x : Bool) → (x && false) ≡ false
+    none true = refl
+    none false = refl
+
+    go : (q : Bool) → keptAll s c ≡ q → ((holds b c && axesLeave (s .axes) c) && q) ≡ (holds b c && q)
+    go true h = ap (λ (t : Bool). (holds b c && t) && true) (kept-axes s f (c .i) (c .j) (c .k) h) ∙ ap (λ (t : Bool). t && true) (whole (holds b c))
+      where
+        whole : (x : Bool) → (x && true) ≡ x
+        whole true = refl
+        whole false = refl
+    go false h = none (holds b c && axesLeave (s .axes) c) ∙ sym (none (holds b c))

@@ -19,27 +19,27 @@ Inv-loop labels₀ r j k to i₀ labels i = Along r (record { from = i₀; to = 
 abbrev μ-loop : tie.MeasureT-loop
 μ-loop labels₀ r j k to i₀ labels i = to - i
 
-row-along-i-requires : tie.Need-row-along-i-requires Inv-loop μ-loop
-row-along-i-requires c κs =
+rest-along-i-requires : tie.Need-rest-along-i-requires Inv-loop μ-loop
+rest-along-i-requires c κs =
     let p = c .before .pre in
     let s = p .0 .sound in
     let h = p .1 .1 in
-    (le-trans (h .0) (s .axis0 .most), p .1 .0, omega (arith, h .1, s .axis1 .most), omega (arith, h .2, s .axis2 .most))
+    (le-trans (h .0) (s .axis0 .most), p .1 .0 .0, omega (arith, h .1, s .axis1 .most), omega (arith, h .2, s .axis2 .most))
 
 -- the cell of a turn is one of the grid
 here : (c : tie.In-loop Inv-loop μ-loop) → InGrid (c .before .before .before .before .args .r) (record { i = c .before .loop .i; j = c .before .before .before .before .args .j; k = c .before .before .before .before .args .k })
 here c =
     let p = c .before .before .before .before .pre .1 .1 in
-    record { i-in = omega (arith, p .0, c .loop-test .taken, c .before .before .row-along-i .ensures .within); j-in = p .1; k-in = p .2 }
+    record { i-in = omega (arith, p .0, c .loop-test .taken, c .before .before .rest-along-i .ensures .within); j-in = p .1; k-in = p .2 }
 
 -- and the labels are still as many
 sheet : (c : tie.In-loop Inv-loop μ-loop) → Sheet (c .before .before .before .before .args .r) (c .before .loop .labels)
-sheet c = along-sheet (c .before .before .before .before .args .r) (c .before .before .row-along-i .result) (c .before .loop .i) _ _ _ (c .before .loop .inv) (c .before .before .before .before .pre .0)
+sheet c = along-sheet (c .before .before .before .before .args .r) (c .before .before .rest-along-i .result) (c .before .loop .i) _ _ _ (c .before .loop .inv) (c .before .before .before .before .pre .0)
 
 loop-holds : tie.Need-loop-holds Inv-loop μ-loop
 loop-holds c =
     let a = c .before .before .args in
-    along-starts (a .r) (c .row-along-i .result) _ (a .labels .now) (none-held (c .row-along-i .result) (a .j) (a .k))
+    along-starts (a .r) (c .rest-along-i .result) _ (a .labels .now) (none-held (c .rest-along-i .result) (a .j) (a .k))
 
 number-requires : tie.Need-number-requires Inv-loop μ-loop
 number-requires c κs = (here c, c .before .before .before .before .pre .0 .sound)
@@ -61,7 +61,7 @@ loop-again : tie.Need-loop-again Inv-loop μ-loop
 loop-again c =
     let l = c .before in
     let a = l .before .before .before .before .args in
-    let e = l .before .before .row-along-i .result in
+    let e = l .before .before .rest-along-i .result in
     let i = l .before .loop .i in
     let m = l .before .loop .labels in
     let cell = painted-cell (a .r) m i (a .j) (a .k) (sheet l) (here l) in
@@ -75,9 +75,9 @@ returns : tie.Need-returns Inv-loop μ-loop
 returns c =
     let a = c .before .before .before .before .args in
     let w = c .before .loop .inv in
-    let e = c .before .before .row-along-i .result in
+    let e = c .before .before .rest-along-i .result in
     let row = painted-same (a .r) _ (holds (rowOf e (a .j) (a .k))) _ _ (w .painted) (done-held e (a .j) (a .k) (c .before .loop .i) (w .walk) (c .loop-test .left)) in
-    painted-same (a .r) _ _ _ _ row (held-left (a .e) (a .j) (a .k) (a .s) e (c .before .before .row-along-i .ensures))
+    painted-same (a .r) _ _ _ _ row (held-left (a .e) (a .j) (a .k) (a .s) e (c .before .before .before .before .pre .1 .0 .1) (c .before .before .rest-along-i .ensures))
 
 pub mark-row-spec : {M : Type 1} → statement M
 mark-row-spec =
@@ -85,7 +85,7 @@ mark-row-spec =
     (tie.spec
     Inv-loop
     μ-loop
-    row-along-i-requires
+    rest-along-i-requires
     loop-holds
     number-requires
     slice-write-labels
