@@ -9,7 +9,7 @@ use native.Mathlib.Omega.{arith}
 use lib.Dec.{leb, ltb}
 use lib.ListN.{length}
 use lib.Ieee.{Float}
-use borrow.Author.Tests.{lt-ltb, le-leb, leb-true, ltb-true}
+use borrow.Author.Tests.{lt-ltb, le-ltb, le-leb, lt-leb, leb-true, ltb-true}
 use Rattle.grid.specs.declared.Axes.{Axes}
 use Rattle.grid.specs.declared.Cell.{Cell}
 use Rattle.grid.specs.declared.Placement.{Placement}
@@ -21,6 +21,7 @@ use Rattle.mesh.specs.declared.Block.{Block}
 use Rattle.mesh.specs.declared.Ends.{Ends}
 use Rattle.mesh.specs.Mesh.{triangles}
 use Rattle.mesh.specs.Ranges.{between, holds}
+use Rattle.intervals.specs.Intervals.{Cut, rowOnK}
 use Rattle.marking.specs.Marked.{hits}
 use Rattle.marking.specs.Painted.{leftIn, one}
 use Rattle.marking.proofs.Paint.{upto, Walk, walk-starts, walk-on, none-along-i, none-along-j, more-i, more-j, done-i, done-j}
@@ -116,12 +117,12 @@ module _ (s : Slabs) (e : Ends) (m : ℕ) (h : m ≤ e .to) where
       go true y a b k f g = rw (f refl) g
       go false y a b k f g = absurd (let v : _≡_ {A = ℕ} 0 1 = cc in omega arith)
 
--- ---- the cells of a row, by their keys
+-- ---- the cells of a part of a row, by their keys
 
-pub keyed-row : (s : Slabs) (i j : ℕ) (e : Ends) (c : Cell) → i < 256 → j < 256 → e .from ≤ 256 → e .to ≤ 256 → CellFits c
-    → keyed (i * 65536 + j * 256 + e .from) (i * 65536 + j * 256 + e .to) s c ≡ leftIn (record { i = one i; j = one j; k = e }) s c
+keyed-row : (i j : ℕ) (e : Ends) (c : Cell) → i < 256 → j < 256 → e .from < e .to → e .to ≤ 256 → CellFits c
+    → keyed (i * 65536 + j * 256 + e .from) (i * 65536 + j * 256 + e .to) c ≡ holds (lineAt i j e) c
 unfolding holds
-keyed-row s i j e c hi hj hf ht n = ap (λ (b : Bool). b && keptAll s c) (same-test (leb low (key c) && ltb (key c) high) ((between (one i) (c .i) && between (one j) (c .j)) && between e (c .k)) there back)
+keyed-row i j e c hi hj hf ht n = same-test (leb low (key c) && ltb (key c) high) ((between (one i) (c .i) && between (one j) (c .j)) && between e (c .k)) there back
   where
     low : ℕ
     low = i * 65536 + j * 256 + e .from
@@ -159,18 +160,60 @@ keyed-row s i j e c hi hj hf ht n = ap (λ (b : Bool). b && keptAll s c) (same-t
         rw (le-leb low (key c) (omega arith), lt-ltb (key c) high (omega arith))
 
 -- so of a table's records they are the same, and there is the same room
-module _ (placing : Bool) (n t i j : ℕ) (s : Slabs) (k : Ends) (o : List ℕ) (table : Table o n) (hi : i < 256) (hj : j < 256) (hf : k .from ≤ k .to) (hk : k .to ≤ 256)
-    (low high : ℕ) (el : low ≡ i * 65536 + j * 256 + k .from) (eh : high ≡ i * 65536 + j * 256 + k .to) where
-  line-same : (p : ℕ) → p < n → gets t (keyed low high s) o p ≡ gets t (leftIn (lineAt i j k) s) o p
-  line-same p l =
-      (λ m. gets t (keyed (el m) (eh m) s) o p)
-      ∙ gets-same t (keyed (i * 65536 + j * 256 + k .from) (i * 65536 + j * 256 + k .to) s) (leftIn (lineAt i j k) s) o p (keyed-row s i j k (recordAt o p .cell) hi hj (omega arith) hk (table .near p l))
+module _ (placing : Bool) (n t i j : ℕ) (e : Ends) (o : List ℕ) (table : Table o n) (hi : i < 256) (hj : j < 256) (hf : e .from < e .to) (hk : e .to ≤ 256)
+    (low high : ℕ) (el : low ≡ i * 65536 + j * 256 + e .from) (eh : high ≡ i * 65536 + j * 256 + e .to) where
+  part-same : (p : ℕ) → p < n → gets t (keyed low high) o p ≡ gets t (holds (lineAt i j e)) o p
+  part-same p l =
+      (λ m. gets t (keyed (el m) (eh m)) o p)
+      ∙ gets-same t (keyed (i * 65536 + j * 256 + e .from) (i * 65536 + j * 256 + e .to)) (holds (lineAt i j e)) o p (keyed-row i j e (recordAt o p .cell) hi hj hf hk (table .near p l))
 
-  pub line-room : (len : ℕ) → Room placing n (gets t (leftIn (lineAt i j k) s) o) o len → Room placing n (gets t (keyed low high s) o) o len
-  line-room len w = room-same placing n (gets t (leftIn (lineAt i j k) s) o) (gets t (keyed low high s) o) o len (λ p l. sym (line-same p l)) w
+  pub keys-room : (len : ℕ) → Room placing n (gets t (holds (lineAt i j e)) o) o len → Room placing n (gets t (keyed low high) o) o len
+  keys-room len w = room-same placing n (gets t (holds (lineAt i j e)) o) (gets t (keyed low high) o) o len (λ p l. sym (part-same p l)) w
 
-  pub line-done : (q out list : List ℕ) → Visited placing n (gets t (keyed low high s) o) o q out list → Visited placing n (gets t (leftIn (lineAt i j k) s) o) o q out list
-  line-done q out list v = visited-same n placing (gets t (keyed low high s) o) (gets t (leftIn (lineAt i j k) s) o) o q out list line-same v
+  pub keys-done : (q out list : List ℕ) → Visited placing n (gets t (keyed low high) o) o q out list → Visited placing n (gets t (holds (lineAt i j e)) o) o q out list
+  keys-done q out list v = visited-same n placing (gets t (keyed low high) o) (gets t (holds (lineAt i j e)) o) o q out list part-same v
+
+pub keys-none : (placing : Bool) (n t i j : ℕ) (e : Ends) (o q : List ℕ) → e .to ≤ e .from → Visited placing n (gets t (holds (lineAt i j e)) o) o q o q
+unfolding holds
+keys-none placing n t i j e o q h = visited-none n placing (gets t (holds (lineAt i j e)) o) o q (λ p l. gets-none t (holds (lineAt i j e)) o p (never (between (one i) (recordAt o p .cell .i) && between (one j) (recordAt o p .cell .j)) (between e (recordAt o p .cell .k)) (outside (recordAt o p .cell .k))))
+  where
+    never : (a b : Bool) → b ≡ false → (a && b) ≡ false
+    never true b z = z
+    never false b z = refl
+
+    outside : (x : ℕ) → between e x ≡ false
+    outside x = ⊎-elim (λ l. rw (le-leb (e .from) x l) (le-ltb x (e .to) (omega arith))) (λ l. rw (lt-leb (e .from) x l)) (le-or-lt (e .from) x)
+
+-- ---- the part of a row that the slabs leave
+
+module _ (placing : Bool) (n t i j : ℕ) (s : Slabs) (k a : Ends) (w : Cut k (rowOnK s i j) a) (o : List ℕ) where
+  held-line : (c : Cell) → holds (lineAt i j a) c ≡ leftIn (lineAt i j k) s c
+  unfolding holds
+  held-line c = go (between (one i) (c .i)) (between (one j) (c .j)) refl refl
+    where
+      here : (n x : ℕ) → between (one n) x ≡ true → x ≡ n
+      here n x h =
+          let p = leb-true n x (both-true (leb n x) (ltb x (n + 1)) h .0) in
+          let q = ltb-true x (n + 1) (both-true (leb n x) (ltb x (n + 1)) h .1) in
+          omega arith
+
+      go : (x y : Bool) → between (one i) (c .i) ≡ x → between (one j) (c .j) ≡ y
+          → ((between (one i) (c .i) && between (one j) (c .j)) && between a (c .k)) ≡ (((between (one i) (c .i) && between (one j) (c .j)) && between k (c .k)) && keptAll s c)
+      go true true ex ey =
+          let hi = here i (c .i) ex in
+          let hj = here j (c .j) ey in
+          rw (ex, ey) (w .places (c .k) ∙ (λ m. between k (c .k) && keptAll s (record { i = sym hi m; j = sym hj m; k = c .k })))
+      go true false ex ey = rw (ex, ey) refl
+      go false y ex ey = rw ex refl
+
+  line-same : (p : ℕ) → p < n → gets t (holds (lineAt i j a)) o p ≡ gets t (leftIn (lineAt i j k) s) o p
+  line-same p l = gets-same t (holds (lineAt i j a)) (leftIn (lineAt i j k) s) o p (held-line (recordAt o p .cell))
+
+  pub line-room : (len : ℕ) → Room placing n (gets t (leftIn (lineAt i j k) s) o) o len → Room placing n (gets t (holds (lineAt i j a)) o) o len
+  line-room len v = room-same placing n (gets t (leftIn (lineAt i j k) s) o) (gets t (holds (lineAt i j a)) o) o len (λ p l. sym (line-same p l)) v
+
+  pub line-done : (q out list : List ℕ) → Visited placing n (gets t (holds (lineAt i j a)) o) o q out list → Visited placing n (gets t (leftIn (lineAt i j k) s) o) o q out list
+  line-done q out list v = visited-same n placing (gets t (holds (lineAt i j a)) o) (gets t (leftIn (lineAt i j k) s) o) o q out list line-same v
 
 -- a row that the directions without k leave nothing of gets nothing
 row-empty : (i y : ℕ) (s : Slabs) (k : Ends) → SlabsFit s → keptRow s i y ≡ false → (c : Cell) → leftIn (lineAt i y k) s c ≡ false
@@ -337,12 +380,3 @@ module _ (placing : Bool) (n : ℕ) (ps : List Float) (ts : List ℕ) (r : Axes)
             visited-then n (allOf ps ts r at o (t + 1)) (allOf ps ts r at o t) one-more o grows placing len upto-room q out list out' list' (w .visits)
             (visited-same n placing (gets t (hits ps ts r at t) out) one-more out list out' list' kept-gets v);
       }
-
--- a block that holds a cell ends along k behind where it begins
-pub held-ends : (b : Block) (c : Cell) → holds b c ≡ true → b .k .from ≤ b .k .to
-unfolding holds
-held-ends b c h =
-    let g = both-true (between (b .i) (c .i) && between (b .j) (c .j)) (between (b .k) (c .k)) h .1 in
-    let x = leb-true (b .k .from) (c .k) (both-true (leb (b .k .from) (c .k)) (ltb (c .k) (b .k .to)) g .0) in
-    let y = ltb-true (c .k) (b .k .to) (both-true (leb (b .k .from) (c .k)) (ltb (c .k) (b .k .to)) g .1) in
-    omega arith

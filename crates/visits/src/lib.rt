@@ -6,6 +6,7 @@ ghost use lib.ListN.{length};
 ghost use Rattle.grid.specs.Grid.{Sound};
 ghost use Rattle.touch.specs.Slabs.{SlabsFit};
 ghost use Rattle.mesh.specs.Mesh.{triangles};
+ghost use Rattle.mesh.specs.Ranges.{holds};
 ghost use Rattle.marking.specs.Marked.{hits};
 ghost use Rattle.marking.specs.Painted.{leftIn, Ready};
 ghost use Rattle.lookup.specs.Lookup.{Table};
@@ -65,7 +66,35 @@ pub fn guesses(records: &[u32], n: usize, r: Axes) -> [u32; 65536]
 
 // ---- a triangle
 
-// Row (i, j) of a block; one that the slabs leave no cell of is passed over.
+// The cells e of row (i, j).
+fn visit_part(
+    records: &mut [u32],
+    list: &mut [u32],
+    guesses: &[u32],
+    n: usize,
+    t: u32,
+    placing: bool,
+    e: Ends,
+    i: usize,
+    j: usize,
+)
+    requires { ⌜ Table (now records) n ⌝ }
+    requires { ⌜ (i < 256) × (j < 256) × (e .to ≤ 256) × (length (now guesses) ≡ 65536) ⌝ }
+    requires { ⌜ Room placing n (gets t (holds (lineAt i j e)) (now records)) (now records) (length (now list)) ⌝ }
+    ensures { λ _. ⌜ Visited placing n (gets t (holds (lineAt i j e)) (now (records .entry))) (now (records .entry)) (now (list .entry)) (now (records .exit)) (now (list .exit)) ⌝ }
+{
+    let from = e.from;
+    let to = e.to;
+    if from < to {
+        let low = lookup::key_of(Cell { i, j, k: from });
+        let high = lookup::key_of(Cell { i, j, k: to });
+        let near = guesses[i * 256 + j] as usize + from;
+        let x = lookup::find(records, n, 0, near, low);
+        rows::visit_row(records, list, n, t, placing, low, high, x);
+    }
+}
+
+// The part of row (i, j) of a block that the slabs leave. A row that they leave nothing of is passed over first.
 fn visit_line(
     records: &mut [u32],
     list: &mut [u32],
@@ -79,16 +108,13 @@ fn visit_line(
     j: usize,
 )
     requires { ⌜ Table (now records) n × SlabsFit s ⌝ }
-    requires { ⌜ (i < 256) × (j < 256) × (k .from ≤ k .to) × (k .to ≤ 256) × (length (now guesses) ≡ 65536) ⌝ }
+    requires { ⌜ (i < 256) × (j < 256) × (k .to ≤ 256) × (length (now guesses) ≡ 65536) ⌝ }
     requires { ⌜ Room placing n (gets t (leftIn (lineAt i j k) s) (now records)) (now records) (length (now list)) ⌝ }
     ensures { λ _. ⌜ Visited placing n (gets t (leftIn (lineAt i j k) s) (now (records .entry))) (now (records .entry)) (now (list .entry)) (now (records .exit)) (now (list .exit)) ⌝ }
 {
     if touch::row_within(s, i, j) {
-        let low = lookup::key_of(Cell { i, j, k: k.from });
-        let high = lookup::key_of(Cell { i, j, k: k.to });
-        let near = guesses[i * 256 + j] as usize + k.from;
-        let x = lookup::find(records, n, 0, near, low);
-        rows::visit_row(records, list, n, s, t, placing, low, high, x);
+        let e = intervals::row_along_k(s, k, i, j);
+        visit_part(records, list, guesses, n, t, placing, e, i, j);
     }
 }
 
@@ -105,7 +131,7 @@ fn visit_slab(
     i: usize,
 )
     requires { ⌜ Table (now records) n × SlabsFit s ⌝ }
-    requires { ⌜ (i < 256) × (b .j .to ≤ 256) × (b .k .from ≤ b .k .to) × (b .k .to ≤ 256) × (length (now guesses) ≡ 65536) ⌝ }
+    requires { ⌜ (i < 256) × (b .j .to ≤ 256) × (b .k .to ≤ 256) × (length (now guesses) ≡ 65536) ⌝ }
     requires { ⌜ Room placing n (gets t (leftIn (slabAt b i) s) (now records)) (now records) (length (now list)) ⌝ }
     ensures { λ _. ⌜ Visited placing n (gets t (leftIn (slabAt b i) s) (now (records .entry))) (now (records .entry)) (now (list .entry)) (now (records .exit)) (now (list .exit)) ⌝ }
 {
@@ -129,7 +155,7 @@ fn visit_block(
     b: Block,
 )
     requires { ⌜ Table (now records) n × SlabsFit s ⌝ }
-    requires { ⌜ (b .i .to ≤ 256) × (b .j .to ≤ 256) × (b .k .from ≤ b .k .to) × (b .k .to ≤ 256) × (length (now guesses) ≡ 65536) ⌝ }
+    requires { ⌜ (b .i .to ≤ 256) × (b .j .to ≤ 256) × (b .k .to ≤ 256) × (length (now guesses) ≡ 65536) ⌝ }
     requires { ⌜ Room placing n (gets t (leftIn b s) (now records)) (now records) (length (now list)) ⌝ }
     ensures { λ _. ⌜ Visited placing n (gets t (leftIn b s) (now (records .entry))) (now (records .entry)) (now (list .entry)) (now (records .exit)) (now (list .exit)) ⌝ }
 {

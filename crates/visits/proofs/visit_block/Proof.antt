@@ -20,7 +20,7 @@ visit-slab-requires c κs =
     let a = c .before .before .before .before .before .before .before .args in let p = c .before .before .before .before .before .before .before .pre in let q = p .1 .0 in let w = c .before .before .before .loop .inv in let l = c .before .before .loop-test .taken in (
       (block-table (a .placing) (a .n) (a .t) (a .s) (a .b) (a .records .now) (a .list .now) _ (p .0 .0) (p .1 .1) _ _ _ w, p .0 .1),
       (
-        (omega (arith, l, q .0), q .1, q .2, q .3, q .4),
+        (omega (arith, l, q .0), q .1, q .2, q .3),
         slab-room (a .placing) (a .n) (a .t) (a .s) (a .b) (a .records .now) (a .list .now) _ (p .0 .0) (p .1 .1) _ _ _ w l _ (visited-size _ _ _ _ _ _ _ (w .visits)),
       ),
     )
