@@ -6,7 +6,7 @@ ghost use lib.ListN.{length};
 ghost use Rattle.grid.specs.Grid.{Sheet};
 ghost use Rattle.touch.specs.Slabs.{SlabsFit};
 ghost use Rattle.mesh.specs.Mesh.{triangles};
-ghost use Rattle.marking.specs.Painted.{leftIn, rowOf, layerOf, Ready};
+ghost use Rattle.marking.specs.Painted.{leftIn, rowOf, layerOf, AxesLeave, RowRest, Ready};
 ghost use Rattle.tally.specs.Pairs.{joins, pairCount, surfaceIn, sizeOf};
 use grid::Axes;
 use grid::Cell;
@@ -15,38 +15,39 @@ use mesh::Block;
 use mesh::Ends;
 use touch::Slabs;
 
-// The surface cells of a row that thirteen slabs leave.
+// The surface cells of the part of a row that the slabs leave. What its layer has cut is not tested again.
 fn count_row(labels: &[u8], s: Slabs, r: Axes, e: Ends, j: usize, k: usize) -> usize
     requires { ⌜ Sheet r (now labels) ⌝ }
-    requires { ⌜ SlabsFit s ⌝ }
+    requires { ⌜ SlabsFit s × RowRest s e j k ⌝ }
     requires { ⌜ (e .to ≤ r .r0) × (j < r .r1) × (k < r .r2) ⌝ }
     ensures { λ n. ⌜ n ≡ sizeOf r (surfaceIn r (now (labels .entry)) (leftIn (rowOf e j k) s)) ⌝ }
 {
-    let to = e.to;
+    let left = intervals::rest_along_i(s, e, j, k);
+    let to = left.to;
     let mut n = 0usize;
-    let mut i = e.from;
+    let mut i = left.from;
     while i < to {
-        let c = Cell { i, j, k };
+        let label = labels[grid::number(r, Cell { i, j, k })];
         i += 1;
-        if labels[grid::number(r, c)] == 8 {
-            if touch::within(s, c) {
-                n += 1;
-            }
+        if label == 8 {
+            n += 1;
         }
     }
     n
 }
 
+// The rows of a layer. What does not depend on i, or not on j, is cut here.
 fn count_layer(labels: &[u8], s: Slabs, r: Axes, b: Block, k: usize) -> usize
     requires { ⌜ Sheet r (now labels) ⌝ }
-    requires { ⌜ SlabsFit s ⌝ }
+    requires { ⌜ SlabsFit s × AxesLeave s (layerOf b k) ⌝ }
     requires { ⌜ (b .i .to ≤ r .r0) × (b .j .to ≤ r .r1) × (k < r .r2) ⌝ }
     ensures { λ n. ⌜ n ≡ sizeOf r (surfaceIn r (now (labels .entry)) (leftIn (layerOf b k) s)) ⌝ }
 {
-    let e = b.i;
-    let to = b.j.to;
+    let e = intervals::layer_along_i(s, b.i, k);
+    let f = intervals::layer_along_j(s, b.j, k);
+    let to = f.to;
     let mut n = 0usize;
-    let mut j = b.j.from;
+    let mut j = f.from;
     while j < to {
         n += count_row(labels, s, r, e, j, k);
         j += 1;
@@ -56,7 +57,7 @@ fn count_layer(labels: &[u8], s: Slabs, r: Axes, b: Block, k: usize) -> usize
 
 fn count_block(labels: &[u8], s: Slabs, r: Axes, b: Block) -> usize
     requires { ⌜ Sheet r (now labels) ⌝ }
-    requires { ⌜ SlabsFit s ⌝ }
+    requires { ⌜ SlabsFit s × AxesLeave s b ⌝ }
     requires { ⌜ (b .i .to ≤ r .r0) × (b .j .to ≤ r .r1) × (b .k .to ≤ r .r2) ⌝ }
     ensures { λ n. ⌜ n ≡ sizeOf r (surfaceIn r (now (labels .entry)) (leftIn b s)) ⌝ }
 {
