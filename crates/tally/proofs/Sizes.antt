@@ -9,7 +9,7 @@ use native.Mathlib.Omega.{arith}
 use lib.Dec.{eqb, leb, ltb}
 use lib.ListN.{length, length-append}
 use lib.Ieee.{Float}
-use borrow.Author.Tests.{eqb-true, eq-eqb, ne-eqb, le-ltb, lt-leb}
+use borrow.Author.Tests.{eqb-true, le-ltb, lt-leb}
 use Rattle.grid.specs.declared.Axes.{Axes}
 use Rattle.grid.specs.declared.Cell.{Cell}
 use Rattle.grid.specs.declared.Placement.{Placement}
@@ -156,10 +156,6 @@ module _ (s : Slabs) (e : Ends) (n : ℕ) where
   swap false true = refl
   swap false false = refl
 
-  pub apart-i : (j k : Ends) (c : Cell) → (leftIn (record { i = upto e n; j = j; k = k }) s c && leftIn (record { i = one n; j = j; k = k }) s c) ≡ false
-  unfolding holds
-  apart-i j k c = cross (between (upto e n) (c .i)) (between (one n) (c .i)) (between j (c .j)) (between k (c .k)) (keptAll s c) (behind e n (c .i))
-
   pub apart-j : (i k : Ends) (c : Cell) → (leftIn (record { i = i; j = upto e n; k = k }) s c && leftIn (record { i = i; j = one n; k = k }) s c) ≡ false
   unfolding holds
   apart-j i k c =
@@ -189,21 +185,35 @@ module _ (s : Slabs) (e : Ends) (n : ℕ) where
           low false = refl
       cross3 false y a k h = refl
 
--- ---- one cell
+-- ---- a row, of which every cell counts
 
-sure : (b : Bool) → (b && true) ≡ b
-sure true = refl
-sure false = refl
+pub apart-held : (e : Ends) (n j k : ℕ) (c : Cell) → (holds (rowOf (upto e n) j k) c && holds (rowOf (one n) j k) c) ≡ false
+unfolding holds
+apart-held e n j k c = cross (between (upto e n) (c .i)) (between (one n) (c .i)) (between (one j) (c .j)) (between (one k) (c .k)) (behind e n (c .i))
+  where
+    cross : (x y a b : Bool) → (x && y) ≡ false → ((x && a) && b) && ((y && a) && b) ≡ false
+    cross true true a b h = absurd (let v : _≡_ {A = ℕ} 0 1 = cc in omega arith)
+    cross true false a b h = low (a && b)
+      where
+        low : (t : Bool) → (t && false) ≡ false
+        low true = refl
+        low false = refl
+    cross false y a b h = refl
 
+-- one cell of it
 size-cell : (r : Axes) (l : List ℕ) (i j k : ℕ) → InGrid r (record { i = i; j = j; k = k })
     → sizeOf r (surfaceIn r l (holds (rowOf (one i) j k))) ≡ cond (eqb (at r l (record { i = i; j = j; k = k })) 8) 1 0
 size-cell r l i j k g =
     kept-one (surfaceIn r l (holds (rowOf (one i) j k))) r d g other
     ∙ ap {B = ℕ} (λ (b : Bool). cond (eqb (at r l d) 8 && b) 1 0) (holds-here i j k)
-    ∙ ap {B = ℕ} (λ (b : Bool). cond b 1 0) (sure (eqb (at r l d) 8))
+    ∙ ap {B = ℕ} (λ (b : Bool). cond b 1 0) (whole (eqb (at r l d) 8))
   where
     d : Cell
     d = record { i = i; j = j; k = k }
+
+    whole : (a : Bool) → (a && true) ≡ a
+    whole true = refl
+    whole false = refl
 
     other : (c : Cell) → (c ≡ d → ⊥) → surfaceIn r l (holds (rowOf (one i) j k)) c ≡ false
     other c z = go (holds (rowOf (one i) j k) c) refl
@@ -216,32 +226,15 @@ size-cell r l i j k g =
         go true f = absurd (z (holds-is i j k c f))
         go false f = ap (λ (t : Bool). eqb (at r l c) 8 && t) f ∙ none (eqb (at r l c) 8)
 
-apart-held : (e : Ends) (n j k : ℕ) (c : Cell) → (holds (rowOf (upto e n) j k) c && holds (rowOf (one n) j k) c) ≡ false
-unfolding holds
-apart-held e n j k c = go (between (upto e n) (c .i)) (between (one n) (c .i)) (between (one j) (c .j)) (between (one k) (c .k)) (behind e n (c .i))
-  where
-    go : (x y a b : Bool) → (x && y) ≡ false → (((x && a) && b) && ((y && a) && b)) ≡ false
-    go true true a b h = absurd (let v : _≡_ {A = ℕ} 0 1 = cc in omega arith)
-    go true false true true h = refl
-    go true false true false h = refl
-    go true false false b h = refl
-    go false y a b h = refl
-
 -- a turn of a walk along a row: the cell where it stands is counted, or not
-module _ (r : Axes) (l : List ℕ) (e : Ends) (i j k n : ℕ) (g : InGrid r (record { i = i; j = j; k = k })) (h : i < e .to)
-    (w : Tallied r e i (surfaceIn r l (holds (rowOf (upto e i) j k))) n) where
-  turn : (b : Bool) → eqb (at r l (record { i = i; j = j; k = k })) 8 ≡ b → Tallied r e (i + 1) (surfaceIn r l (holds (rowOf (upto e (i + 1)) j k))) (n + cond b 1 0)
-  turn b f =
-      tallied-on r l e i (holds (rowOf (upto e i) j k)) (holds (rowOf (one i) j k)) (holds (rowOf (upto e (i + 1)) j k)) n (cond b 1 0) w h
-      (sym (size-cell r l i j k g ∙ ap {B = ℕ} (λ (t : Bool). cond t 1 0) f))
-      (more-held e j k i (w .walk))
-      (apart-held e i j k)
-
-  pub turn-yes : at r l (record { i = i; j = j; k = k }) ≡ 8 → Tallied r e (i + 1) (surfaceIn r l (holds (rowOf (upto e (i + 1)) j k))) (n + 1)
-  turn-yes a = turn true (eq-eqb _ 8 a)
-
-  pub turn-no : (at r l (record { i = i; j = j; k = k }) ≡ 8 → ⊥) → Tallied r e (i + 1) (surfaceIn r l (holds (rowOf (upto e (i + 1)) j k))) n
-  turn-no f = subst (Tallied r e (i + 1) (surfaceIn r l (holds (rowOf (upto e (i + 1)) j k)))) (let z : n + 0 ≡ n = omega arith in z) (turn false (ne-eqb _ 8 f))
+pub turn : (r : Axes) (l : List ℕ) (e : Ends) (i j k n m : ℕ) → InGrid r (record { i = i; j = j; k = k }) → i < e .to
+    → Tallied r e i (surfaceIn r l (holds (rowOf (upto e i) j k))) n → m ≡ cond (eqb (at r l (record { i = i; j = j; k = k })) 8) 1 0
+    → Tallied r e (i + 1) (surfaceIn r l (holds (rowOf (upto e (i + 1)) j k))) (n + m)
+turn r l e i j k n m g h w f =
+    tallied-on r l e i (holds (rowOf (upto e i) j k)) (holds (rowOf (one i) j k)) (holds (rowOf (upto e (i + 1)) j k)) n m w h
+    (f ∙ sym (size-cell r l i j k g))
+    (more-held e j k i (w .walk))
+    (apart-held e i j k)
 
 -- ---- triangle after triangle
 

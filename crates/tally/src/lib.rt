@@ -1,7 +1,9 @@
 // How many pairs a list has: a surface cell and a triangle that has it as a candidate and touches it. They
 // are counted in 64 bits before anything is written, over the labels, in memory order.
+ghost use mathlib.Core.Bool.{cond};
 ghost use mathlib.Core.Path.{_≡_};
 ghost use Prim.Native.Nat.{_≤_, _<_};
+ghost use lib.Dec.{eqb};
 ghost use lib.ListN.{length};
 ghost use Rattle.grid.specs.Grid.{Sheet};
 ghost use Rattle.touch.specs.Slabs.{SlabsFit};
@@ -15,7 +17,14 @@ use mesh::Block;
 use mesh::Ends;
 use touch::Slabs;
 
-// The surface cells of the part of a row that the slabs leave. What its layer has cut is not tested again.
+// 1 for a surface cell, 0 for another.
+fn surface_count(label: u8) -> usize
+    ensures { λ n. ⌜ n ≡ cond (eqb label 8) 1 0 ⌝ }
+{
+    if label == 8 { 1 } else { 0 }
+}
+
+// The surface cells of a row that thirteen slabs leave. What its layer has cut is not tested again.
 fn count_row(labels: &[u8], s: Slabs, r: Axes, e: Ends, j: usize, k: usize) -> usize
     requires { ⌜ Sheet r (now labels) ⌝ }
     requires { ⌜ SlabsFit s × RowRest s e j k ⌝ }
@@ -27,16 +36,12 @@ fn count_row(labels: &[u8], s: Slabs, r: Axes, e: Ends, j: usize, k: usize) -> u
     let mut n = 0usize;
     let mut i = left.from;
     while i < to {
-        let label = labels[grid::number(r, Cell { i, j, k })];
+        n += surface_count(labels[grid::number(r, Cell { i, j, k })]);
         i += 1;
-        if label == 8 {
-            n += 1;
-        }
     }
     n
 }
 
-// The rows of a layer. What does not depend on i, or not on j, is cut here.
 fn count_layer(labels: &[u8], s: Slabs, r: Axes, b: Block, k: usize) -> usize
     requires { ⌜ Sheet r (now labels) ⌝ }
     requires { ⌜ SlabsFit s × AxesLeave s (layerOf b k) ⌝ }

@@ -1,6 +1,4 @@
 -- `tally::count_layer` meets its contract: a loop along j (`Tallied`), a row in each turn, over what the layer's cuts leave. Assumes nothing.
-use Rattle.tally.proofs.count_layer.Statement.{statement}
-use Rattle.tally.proofs.count_layer.Tie as tie
 use mathlib.Core.Path.{_∙_}
 use Prim.Native.Nat.{_-_}
 use native.Mathlib.Nat.{le-trans}
@@ -9,6 +7,8 @@ use Rattle.marking.specs.Painted.{leftIn, rowOf, one}
 use Rattle.marking.proofs.Paint.{more-j, none-along-j, done-j, row-rest, layer-left}
 use Rattle.tally.specs.Pairs.{surfaceIn}
 use Rattle.tally.proofs.Sizes.{Tallied, tallied-starts, tallied-on, tallied-most, surface-same, size-most, apart-j}
+use Rattle.tally.proofs.count_layer.Statement.{statement}
+use Rattle.tally.proofs.count_layer.Tie as tie
 
 abbrev Inv-loop : tie.InvT-loop
 Inv-loop labels s r k e to n₀ j₀ n j = Tallied r (record { from = j₀; to = to }) j (surfaceIn r labels (leftIn (record { i = e; j = record { from = j₀; to = j }; k = one k }) s)) n
@@ -27,20 +27,32 @@ layer-along-j-requires c κs =
     (le-trans (p .1 .1 .1) (p .0 .sound .axis1 .most), p .1 .0 .0, omega (arith, p .1 .1 .2, p .0 .sound .axis2 .most))
 
 loop-holds : tie.Need-loop-holds Inv-loop μ-loop
-loop-holds c = let a = c .before .before .before .args in tallied-starts (a .r) (a .labels .now) (c .layer-along-j .result) _ (none-along-j (a .s) (c .layer-along-j .result) (c .before .layer-along-i .result) (one (a .k)))
+loop-holds c =
+    let a = c .before .before .before .args in
+    let f = c .layer-along-j .result in
+    tallied-starts (a .r) (a .labels .now) f _ (none-along-j (a .s) f (c .before .layer-along-i .result) (one (a .k)))
 
 count-row-requires : tie.Need-count-row-requires Inv-loop μ-loop
 count-row-requires c κs =
-    let a = c .before .before .before .before .before .args in let p = c .before .before .before .before .before .pre in let h = p .1 .1 in let f = c .before .before .layer-along-j in let e = c .before .before .before .layer-along-i in let l = c .loop-test .taken in (
+    let a = c .before .before .before .before .before .args in
+    let p = c .before .before .before .before .before .pre in
+    let h = p .1 .1 in
+    let w = c .before .loop .inv in
+    let f = c .before .before .layer-along-j in
+    let e = c .before .before .before .layer-along-i in
+    (
       p .0,
       (
-        (p .1 .0 .0, row-rest (a .s) (p .1 .0 .0) (a .b) (a .k) (e .result) (f .result) (e .ensures) (f .ensures) (p .1 .0 .1) (c .before .loop .j) (c .before .loop .inv .walk .low) l),
-        (le-trans (e .ensures .within) (h .0), omega (arith, h .1, l, f .ensures .within), h .2),
+        (p .1 .0 .0, row-rest (a .s) (p .1 .0 .0) (a .b) (a .k) (e .result) (f .result) (e .ensures) (f .ensures) (p .1 .0 .1) (c .before .loop .j) (w .walk .low) (c .loop-test .taken)),
+        (le-trans (e .ensures .within) (h .0), omega (arith, h .1, c .loop-test .taken, f .ensures .within), h .2),
       ),
     )
 
 add-n : tie.Need-add-n Inv-loop μ-loop
-add-n c = let a = c .before .before .before .before .before .before .args in let s = c .before .before .before .before .before .before .pre .0 .sound in omega (arith, tallied-most (a .r) s (c .before .before .before .layer-along-j .result) _ _ _ (c .before .before .loop .inv), c .count-row .ensures, size-most (a .r) s (surfaceIn (a .r) (a .labels .now) (leftIn (rowOf (c .before .before .before .before .layer-along-i .result) (c .before .before .loop .j) (a .k)) (a .s))))
+add-n c =
+    let a = c .before .before .before .before .before .before .args in
+    let s = c .before .before .before .before .before .before .pre .0 .sound in
+    omega (arith, tallied-most (a .r) s (c .before .before .before .layer-along-j .result) _ _ _ (c .before .before .loop .inv), c .count-row .ensures, size-most (a .r) s (surfaceIn (a .r) (a .labels .now) (leftIn (rowOf (c .before .before .before .before .layer-along-i .result) (c .before .before .loop .j) (a .k)) (a .s))))
 
 add-j : tie.Need-add-j Inv-loop μ-loop
 add-j c = omega (arith, c .before .before .before .before .before .before .pre .1 .1 .1, c .before .loop-test .taken, c .before .before .before .layer-along-j .ensures .within, c .before .before .before .before .before .before .pre .0 .sound .axis1 .most)
@@ -50,15 +62,23 @@ loop-less c = omega (arith, c .before .loop-test .taken)
 
 loop-again : tie.Need-loop-again Inv-loop μ-loop
 loop-again c =
-    let a = c .before .before .before .before .before .before .args in let w = c .before .before .loop .inv in let j = c .before .before .loop .j in let f = c .before .before .before .layer-along-j .result in let e = c .before .before .before .before .layer-along-i .result in
+    let a = c .before .before .before .before .before .before .args in
+    let w = c .before .before .loop .inv in
+    let j = c .before .before .loop .j in
+    let f = c .before .before .before .layer-along-j .result in
+    let e = c .before .before .before .before .layer-along-i .result in
     tallied-on (a .r) (a .labels .now) f j _ _ _ _ _ w (c .before .loop-test .taken) (c .count-row .ensures) (more-j (a .s) f j (w .walk) e (one (a .k))) (apart-j (a .s) f j e (one (a .k)))
 
 returns : tie.Need-returns Inv-loop μ-loop
 returns c =
-    let a = c .before .before .before .before .before .args in let w = c .before .loop .inv in let f = c .before .before .layer-along-j in let e = c .before .before .before .layer-along-i in
+    let a = c .before .before .before .before .before .args in
+    let p = c .before .before .before .before .before .pre in
+    let w = c .before .loop .inv in
+    let f = c .before .before .layer-along-j in
+    let e = c .before .before .before .layer-along-i in
     w .count
-    ∙ surface-same (a .r) (a .labels .now) _ _ (done-j (a .s) (f .result) (c .before .loop .j) (w .walk) (c .loop-test .left) (e .result) (one (a .k)))
-    ∙ surface-same (a .r) (a .labels .now) _ _ (layer-left (a .s) (c .before .before .before .before .before .pre .1 .0 .0) (a .b) (a .k) (e .result) (f .result) (e .ensures) (f .ensures))
+    ∙ surface-same (a .r) (a .labels .now) _ _
+    (λ d. done-j (a .s) (f .result) (c .before .loop .j) (w .walk) (c .loop-test .left) (e .result) (one (a .k)) d ∙ layer-left (a .s) (p .1 .0 .0) (a .b) (a .k) (e .result) (f .result) (e .ensures) (f .ensures) d)
 
 pub count-layer-spec : {M : Type 1} → statement M
 count-layer-spec =
