@@ -392,10 +392,10 @@ layer-all s f i j k =
     let h = f .edge20-flat in
     grouped (keptThree (s .axes) x y z) (kept (s .normal) x y z) (kept (s .edge01 .x) x y z) (kept (s .edge01 .y) x y z) (kept (s .edge01 .z) x y z) (kept (s .edge12 .x) x y z) (kept (s .edge12 .y) x y z) (kept (s .edge12 .z) x y z) (kept (s .edge20 .x) x y z) (kept (s .edge20 .y) x y z) (kept (s .edge20 .z) x y z)
     ∙ (λ t.
-        keptThree (s .axes) x y z
-        && (free-x (s .edge01) e x y z t && free-x (s .edge12) g x y z t && free-x (s .edge20) h x y z t)
-        && (free-y (s .edge01) e x y z t && free-y (s .edge12) g x y z t && free-y (s .edge20) h x y z t)
-        && (kept (s .normal) x y z && free-z (s .edge01) e x y z t && free-z (s .edge12) g x y z t && free-z (s .edge20) h x y z t))
+    keptThree (s .axes) x y z
+    && (free-x (s .edge01) e x y z t && free-x (s .edge12) g x y z t && free-x (s .edge20) h x y z t)
+    && (free-y (s .edge01) e x y z t && free-y (s .edge12) g x y z t && free-y (s .edge20) h x y z t)
+    && (kept (s .normal) x y z && free-z (s .edge01) e x y z t && free-z (s .edge12) g x y z t && free-z (s .edge20) h x y z t))
 
 -- a cell that the thirteen leave is left by each group of them
 module _ (s : Slabs) (f : SlabsFit s) (i j k : ℕ) (h : keptAll s (record { i = i; j = j; k = k }) ≡ true) where

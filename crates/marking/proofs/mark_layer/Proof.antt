@@ -36,8 +36,7 @@ mark-row-requires c κs =
     let j = c .before .before .loop .j in
     let w = c .before .before .loop .inv in
     let f = c .before .before .before .layer-along-j in
-    let e = c .before .before .before .before .layer-along-i in
-    (
+    let e = c .before .before .before .before .layer-along-i in (
       along-sheet (a .r) (f .result) j _ _ _ w (p .0),
       (
         (p .1 .0 .0, row-rest (a .s) (p .1 .0 .0) (a .b) (a .k) (e .result) (f .result) (e .ensures) (f .ensures) (p .1 .0 .1) j (w .walk .low) (c .before .loop-test .taken)),

@@ -39,8 +39,7 @@ count-row-requires c κs =
     let h = p .1 .1 in
     let w = c .before .loop .inv in
     let f = c .before .before .layer-along-j in
-    let e = c .before .before .before .layer-along-i in
-    (
+    let e = c .before .before .before .layer-along-i in (
       p .0,
       (
         (p .1 .0 .0, row-rest (a .s) (p .1 .0 .0) (a .b) (a .k) (e .result) (f .result) (e .ensures) (f .ensures) (p .1 .0 .1) (c .before .loop .j) (w .walk .low) (c .loop-test .taken)),
