@@ -5,11 +5,16 @@ use lib.Ieee.{Float}
 use Rattle.grid.specs.declared.Axes.{Axes}
 use Rattle.grid.specs.declared.Placement.{Placement}
 use Rattle.mesh.specs.declared.Block.{Block}
+use Rattle.mesh.specs.declared.Ends.{Ends}
 use Rattle.marking.specs.Marked.{hits}
 use Rattle.marking.specs.Painted.{one}
 use Rattle.order.specs.Order.{chosen}
 use Rattle.listed.specs.Listed.{recordAt}
 use Rattle.rows.specs.Rows.{meets}
+
+-- row (i, j) along k
+abbrev pub lineAt : ℕ → ℕ → Ends → Block
+lineAt i j k = record { i = one i; j = one j; k = k }
 
 -- slab i of a block
 abbrev pub slabAt : Block → ℕ → Block
