@@ -23,7 +23,7 @@ use Rattle.touch.proofs.Laws.{signed, axes-are, products-are}
 use Rattle.mesh.specs.declared.Ends.{Ends}
 use Rattle.mesh.specs.declared.Block.{Block}
 use Rattle.mesh.specs.Ranges.{between, holds}
-use Rattle.intervals.specs.Intervals.{lies, Cut, Rising, First, Past, Clipped, onI, onJ, onK, acrossX, acrossY, restOfRow, axesLeave}
+use Rattle.intervals.specs.Intervals.{lies, Cut, Rising, First, Past, Clipped, onI, onJ, onK, acrossX, acrossY, restOfRow, axesLeave, acrossZ, restAlongK}
 
 -- ---- tests
 
@@ -413,3 +413,40 @@ module _ (s : Slabs) (f : SlabsFit s) (i j k : ℕ) (h : keptAll s (record { i =
 
   pub kept-y : acrossY s k i ≡ true
   kept-y = parts-kept .1
+
+-- ---- the same in a slab of cells: the products with x change places with those with z
+
+changed : (a n y x u p z w r : Bool) → (a && (x && u && p) && y && (n && z && w && r)) ≡ true → (a && (z && w && r) && y && (n && x && u && p)) ≡ true
+changed a n y x u p z w r h =
+    let h1 = both-true (a && (x && u && p) && y) (n && z && w && r) h in
+    let h2 = both-true (a && (x && u && p)) y (h1 .0) in
+    let h3 = both-true a (x && u && p) (h2 .0) in
+    let h4 = both-true (x && u) p (h3 .1) in
+    let h5 = both-true x u (h4 .0) in
+    let g1 = both-true (n && z && w) r (h1 .1) in
+    let g2 = both-true (n && z) w (g1 .0) in
+    let g3 = both-true n z (g2 .0) in
+    rw (h3 .0, h2 .1, h5 .0, h5 .1, h4 .1, g3 .0, g3 .1, g2 .1, g1 .1)
+
+regrouped : (a n y x u p z w r : Bool) → (a && (x && u && p) && y && (n && z && w && r)) ≡ (a && (z && w && r) && y && (n && x && u && p))
+regrouped a n y x u p z w r = alike _ _ (changed a n y x u p z w r) (changed a n y z w r x u p)
+  where
+    alike : (s t : Bool) → (s ≡ true → t ≡ true) → (t ≡ true → s ≡ true) → s ≡ t
+    alike true t f g = sym (f refl)
+    alike false true f g = g refl
+    alike false false f g = refl
+
+pub slice-all : (s : Slabs) → SlabsFit s → (i j k : ℕ) → keptAll s (record { i = i; j = j; k = k }) ≡ (axesLeave (s .axes) (record { i = i; j = j; k = k }) && acrossZ s i j && acrossY s k i && restAlongK s i j k)
+slice-all s f i j k =
+    layer-all s f i j k
+    ∙ regrouped (axesLeave (s .axes) (record { i = i; j = j; k = k })) (kept (s .normal) (pos i) (pos j) (pos k)) (acrossY s k i)
+    (kept (s .edge01 .x) (pos 0) (pos j) (pos k)) (kept (s .edge12 .x) (pos 0) (pos j) (pos k)) (kept (s .edge20 .x) (pos 0) (pos j) (pos k))
+    (kept (s .edge01 .z) (pos i) (pos j) (pos 0)) (kept (s .edge12 .z) (pos i) (pos j) (pos 0)) (kept (s .edge20 .z) (pos i) (pos j) (pos 0))
+
+-- a cell that the thirteen leave is left in its slab
+pub kept-slice : (s : Slabs) → SlabsFit s → (i j k : ℕ) → keptAll s (record { i = i; j = j; k = k }) ≡ true → (acrossZ s i j ≡ true) × (acrossY s k i ≡ true)
+kept-slice s f i j k h =
+    let a = axesLeave (s .axes) (record { i = i; j = j; k = k }) in
+    let h1 = both-true (a && acrossZ s i j && acrossY s k i) (restAlongK s i j k) (sym (slice-all s f i j k) ∙ h) in
+    let h2 = both-true (a && acrossZ s i j) (acrossY s k i) (h1 .0) in
+    (both-true a (acrossZ s i j) (h2 .0) .1, h2 .1)

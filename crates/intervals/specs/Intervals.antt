@@ -49,12 +49,6 @@ onJ s i k x = kept s i (pos x) k
 abbrev pub onK : Slab → ℤ → ℤ → ℕ → Bool
 onK s i j x = kept s i j (pos x)
 
-abbrev pub threeOnK : Three → ℤ → ℤ → ℕ → Bool
-threeOnK t i j x = keptThree t i j (pos x)
-
-abbrev pub rowOnK : Slabs → ℕ → ℕ → ℕ → Bool
-rowOnK s i j x = keptAll s (record { i = i; j = j; k = x })
-
 -- what the thirteen come to in a layer: the products with x say nothing of i, those with y nothing of j, those with z nothing of k (`layer-all` in proofs/Laws.antt)
 abbrev pub acrossX : Slabs → ℕ → ℕ → Bool
 acrossX s k j = kept (s .edge01 .x) (pos 0) (pos j) (pos k) && kept (s .edge12 .x) (pos 0) (pos j) (pos k) && kept (s .edge20 .x) (pos 0) (pos j) (pos k)
@@ -65,6 +59,14 @@ acrossY s k i = kept (s .edge01 .y) (pos i) (pos 0) (pos k) && kept (s .edge12 .
 abbrev pub restOfRow : Slabs → ℕ → ℕ → ℕ → Bool
 restOfRow s j k i =
     kept (s .normal) (pos i) (pos j) (pos k) && kept (s .edge01 .z) (pos i) (pos j) (pos 0) && kept (s .edge12 .z) (pos i) (pos j) (pos 0) && kept (s .edge20 .z) (pos i) (pos j) (pos 0)
+
+-- and in a slab of cells of one i (`slice-all`)
+abbrev pub acrossZ : Slabs → ℕ → ℕ → Bool
+acrossZ s i j = kept (s .edge01 .z) (pos i) (pos j) (pos 0) && kept (s .edge12 .z) (pos i) (pos j) (pos 0) && kept (s .edge20 .z) (pos i) (pos j) (pos 0)
+
+abbrev pub restAlongK : Slabs → ℕ → ℕ → ℕ → Bool
+restAlongK s i j k =
+    kept (s .normal) (pos i) (pos j) (pos k) && kept (s .edge01 .x) (pos 0) (pos j) (pos k) && kept (s .edge12 .x) (pos 0) (pos j) (pos k) && kept (s .edge20 .x) (pos 0) (pos j) (pos k)
 
 abbrev pub axesLeave : Three → Cell → Bool
 axesLeave s c = keptThree s (pos (c .i)) (pos (c .j)) (pos (c .k))

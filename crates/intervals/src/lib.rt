@@ -8,7 +8,7 @@ ghost use lib.IntN.{pos, _*ℤ_};
 ghost use lib.Signed.{leZ};
 ghost use Rattle.ints.specs.Bound.{In};
 ghost use Rattle.touch.specs.Slabs.{SlabFits, ThreeFit, Axial, SlabsFit};
-ghost use Rattle.intervals.specs.Intervals.{lies, Cut, Rising, First, Past, Clipped, onI, onJ, onK, acrossX, acrossY, restOfRow, threeOnK, rowOnK};
+ghost use Rattle.intervals.specs.Intervals.{lies, Cut, Rising, First, Past, Clipped, onI, onJ, onK, acrossX, acrossY, restOfRow, acrossZ, restAlongK};
 use mesh::Block;
 use mesh::Ends;
 use touch::Slab;
@@ -162,27 +162,39 @@ fn slab_along_k(e: Ends, s: Slab, i: i64, j: i64) -> Ends
     cut(e, s.z, s.low - base, s.high - base)
 }
 
-fn three_along_k(e: Ends, t: Three, i: i64, j: i64) -> Ends
-    requires { ⌜ (e .to ≤ 256) × ThreeFit t × In 255 i × In 255 j ⌝ }
-    ensures { λ a. ⌜ Cut e (threeOnK t i j) a ⌝ }
+// In slab i of cells, the places k that the products of the edges with y leave, whatever j is.
+pub fn slice_along_k(s: Slabs, e: Ends, i: usize) -> Ends
+    requires { ⌜ (e .to ≤ 256) × SlabsFit s × (i < 256) ⌝ }
+    ensures { λ a. ⌜ Cut e (λ k. acrossY s k i) a ⌝ }
 {
-    let x = slab_along_k(e, t.x, i, j);
-    let y = slab_along_k(x, t.y, i, j);
-    slab_along_k(y, t.z, i, j)
+    let x = i as i64;
+    let edge01 = slab_along_k(e, s.edge01.y, x, 0);
+    let edge12 = slab_along_k(edge01, s.edge12.y, x, 0);
+    slab_along_k(edge12, s.edge20.y, x, 0)
 }
 
-// The places k of e where the thirteen leave the cell (i, j, k).
-pub fn row_along_k(s: Slabs, e: Ends, i: usize, j: usize) -> Ends
+// In slab i of cells, the places j that the products of the edges with z leave, whatever k is.
+pub fn slice_along_j(s: Slabs, e: Ends, i: usize) -> Ends
+    requires { ⌜ (e .to ≤ 256) × SlabsFit s × (i < 256) ⌝ }
+    ensures { λ a. ⌜ Cut e (acrossZ s i) a ⌝ }
+{
+    let x = i as i64;
+    let edge01 = slab_along_j(e, s.edge01.z, x, 0);
+    let edge12 = slab_along_j(edge01, s.edge12.z, x, 0);
+    slab_along_j(edge12, s.edge20.z, x, 0)
+}
+
+// In row (i, j), the places k that the other directions leave: the normal, and the products with x.
+pub fn rest_along_k(s: Slabs, e: Ends, i: usize, j: usize) -> Ends
     requires { ⌜ (e .to ≤ 256) × SlabsFit s × (i < 256) × (j < 256) ⌝ }
-    ensures { λ a. ⌜ Cut e (rowOnK s i j) a ⌝ }
+    ensures { λ a. ⌜ Cut e (restAlongK s i j) a ⌝ }
 {
     let x = i as i64;
     let y = j as i64;
-    let axes = three_along_k(e, s.axes, x, y);
-    let normal = slab_along_k(axes, s.normal, x, y);
-    let edge01 = three_along_k(normal, s.edge01, x, y);
-    let edge12 = three_along_k(edge01, s.edge12, x, y);
-    three_along_k(edge12, s.edge20, x, y)
+    let normal = slab_along_k(e, s.normal, x, y);
+    let edge01 = slab_along_k(normal, s.edge01.x, 0, y);
+    let edge12 = slab_along_k(edge01, s.edge12.x, 0, y);
+    slab_along_k(edge12, s.edge20.x, 0, y)
 }
 
 // ---- a block

@@ -1,5 +1,5 @@
 -- A triangle goes to the records of a block, part after part: the room for the next part, and what has been given with it; a row by its keys; and triangle after triangle. Assumes nothing.
-use mathlib.Core.Bool.{Bool, true≢false, true, false, not, cond, _&&_, _||_}
+use mathlib.Core.Bool.{Bool, true, false, not, cond, _&&_, _||_}
 use mathlib.Core.Path.{_≡_, refl, sym, ap, subst, _∙_}
 use mathlib.Core.Logic.{⊎-elim}
 use mathlib.Core.List.{List, [], _∷_, _++_, append-nil, append-assoc}
@@ -15,22 +15,22 @@ use Rattle.grid.specs.declared.Cell.{Cell}
 use Rattle.grid.specs.declared.Placement.{Placement}
 use Rattle.grid.proofs.First.{le-or-lt, both-true}
 use Rattle.touch.specs.declared.Slabs.{Slabs}
-use Rattle.touch.specs.Slabs.{keptAll, keptRow, CellFits, SlabsFit}
-use Rattle.touch.proofs.Laws.{kept-row}
+use Rattle.touch.specs.Slabs.{keptAll, CellFits, SlabsFit}
 use Rattle.mesh.specs.declared.Block.{Block}
 use Rattle.mesh.specs.declared.Ends.{Ends}
 use Rattle.mesh.specs.Mesh.{triangles}
 use Rattle.mesh.specs.Ranges.{between, holds}
-use Rattle.intervals.specs.Intervals.{Cut, rowOnK}
+use Rattle.intervals.specs.Intervals.{Cut, acrossY, acrossZ, restAlongK}
+use Rattle.intervals.proofs.Laws.{slice-all, kept-slice}
 use Rattle.marking.specs.Marked.{hits}
-use Rattle.marking.specs.Painted.{leftIn, one}
+use Rattle.marking.specs.Painted.{leftIn, one, AxesLeave}
 use Rattle.marking.proofs.Paint.{upto, Walk, walk-starts, walk-on, none-along-i, none-along-j, more-i, more-j, done-i, done-j}
-use Rattle.tally.proofs.Sizes.{apart-i, apart-j}
+use Rattle.tally.proofs.Sizes.{apart-j}
 use Rattle.order.specs.Order.{key, chosen}
 use Rattle.listed.specs.Listed.{recordAt}
 use Rattle.lookup.specs.Lookup.{Table}
 use Rattle.rows.specs.Rows.{meets, keyed, gets, Visited, Free, Room}
-use Rattle.visits.specs.Visits.{lineAt, slabAt, allOf}
+use Rattle.visits.specs.Visits.{lineAt, slabAt, LineRest, allOf}
 use Rattle.rows.proofs.Visiting.{visited-none, visited-same, visited-then, room-part, room-rest, bump-table, bump-gets, gets-either, gets-none, gets-same}
 
 -- two tests that imply each other are one
@@ -186,57 +186,110 @@ keys-none placing n t i j e o q h = visited-none n placing (gets t (holds (lineA
 
 -- ---- the part of a row that the slabs leave
 
-module _ (placing : Bool) (n t i j : ℕ) (s : Slabs) (k a : Ends) (w : Cut k (rowOnK s i j) a) (o : List ℕ) where
-  held-line : (c : Cell) → holds (lineAt i j a) c ≡ leftIn (lineAt i j k) s c
+one-is : (n x : ℕ) → between (one n) x ≡ true → x ≡ n
+one-is n x h =
+    let p = leb-true n x (both-true (leb n x) (ltb x (n + 1)) h .0) in
+    let q = ltb-true x (n + 1) (both-true (leb n x) (ltb x (n + 1)) h .1) in
+    omega arith
+
+one-here : (n : ℕ) → between (one n) n ≡ true
+one-here n = rw (le-leb n n (omega arith), lt-ltb n (n + 1) (omega arith))
+
+module _ (placing : Bool) (n t i j : ℕ) (s : Slabs) (e a : Ends) (u : LineRest s e i j) (w : Cut e (restAlongK s i j) a) (o : List ℕ) where
+  held-line : (c : Cell) → holds (lineAt i j a) c ≡ leftIn (lineAt i j e) s c
   unfolding holds
   held-line c = go (between (one i) (c .i)) (between (one j) (c .j)) refl refl
     where
-      here : (n x : ℕ) → between (one n) x ≡ true → x ≡ n
-      here n x h =
-          let p = leb-true n x (both-true (leb n x) (ltb x (n + 1)) h .0) in
-          let q = ltb-true x (n + 1) (both-true (leb n x) (ltb x (n + 1)) h .1) in
-          omega arith
+      whole : (t : Bool) → between e (c .k) ≡ t → (t && restAlongK s i j (c .k)) ≡ (t && keptAll s (record { i = i; j = j; k = c .k }))
+      whole true f = sym (u .rest (c .k) f)
+      whole false f = refl
 
       go : (x y : Bool) → between (one i) (c .i) ≡ x → between (one j) (c .j) ≡ y
-          → ((between (one i) (c .i) && between (one j) (c .j)) && between a (c .k)) ≡ (((between (one i) (c .i) && between (one j) (c .j)) && between k (c .k)) && keptAll s c)
+          → ((between (one i) (c .i) && between (one j) (c .j)) && between a (c .k)) ≡ (((between (one i) (c .i) && between (one j) (c .j)) && between e (c .k)) && keptAll s c)
       go true true ex ey =
-          let hi = here i (c .i) ex in
-          let hj = here j (c .j) ey in
-          rw (ex, ey) (w .places (c .k) ∙ (λ m. between k (c .k) && keptAll s (record { i = sym hi m; j = sym hj m; k = c .k })))
+          let hi = one-is i (c .i) ex in
+          let hj = one-is j (c .j) ey in
+          rw (ex, ey) (w .places (c .k) ∙ whole (between e (c .k)) refl ∙ (λ m. between e (c .k) && keptAll s (record { i = sym hi m; j = sym hj m; k = c .k })))
       go true false ex ey = rw (ex, ey) refl
       go false y ex ey = rw ex refl
 
-  line-same : (p : ℕ) → p < n → gets t (holds (lineAt i j a)) o p ≡ gets t (leftIn (lineAt i j k) s) o p
-  line-same p l = gets-same t (holds (lineAt i j a)) (leftIn (lineAt i j k) s) o p (held-line (recordAt o p .cell))
+  line-same : (p : ℕ) → p < n → gets t (holds (lineAt i j a)) o p ≡ gets t (leftIn (lineAt i j e) s) o p
+  line-same p l = gets-same t (holds (lineAt i j a)) (leftIn (lineAt i j e) s) o p (held-line (recordAt o p .cell))
 
-  pub line-room : (len : ℕ) → Room placing n (gets t (leftIn (lineAt i j k) s) o) o len → Room placing n (gets t (holds (lineAt i j a)) o) o len
-  line-room len v = room-same placing n (gets t (leftIn (lineAt i j k) s) o) (gets t (holds (lineAt i j a)) o) o len (λ p l. sym (line-same p l)) v
+  pub line-room : (len : ℕ) → Room placing n (gets t (leftIn (lineAt i j e) s) o) o len → Room placing n (gets t (holds (lineAt i j a)) o) o len
+  line-room len v = room-same placing n (gets t (leftIn (lineAt i j e) s) o) (gets t (holds (lineAt i j a)) o) o len (λ p l. sym (line-same p l)) v
 
-  pub line-done : (q out list : List ℕ) → Visited placing n (gets t (holds (lineAt i j a)) o) o q out list → Visited placing n (gets t (leftIn (lineAt i j k) s) o) o q out list
-  line-done q out list v = visited-same n placing (gets t (holds (lineAt i j a)) o) (gets t (leftIn (lineAt i j k) s) o) o q out list line-same v
+  pub line-done : (q out list : List ℕ) → Visited placing n (gets t (holds (lineAt i j a)) o) o q out list → Visited placing n (gets t (leftIn (lineAt i j e) s) o) o q out list
+  line-done q out list v = visited-same n placing (gets t (holds (lineAt i j a)) o) (gets t (leftIn (lineAt i j e) s) o) o q out list line-same v
 
--- a row that the directions without k leave nothing of gets nothing
-row-empty : (i y : ℕ) (s : Slabs) (k : Ends) → SlabsFit s → keptRow s i y ≡ false → (c : Cell) → leftIn (lineAt i y k) s c ≡ false
+-- ---- a slab of cells of a block that the axes leave
+
+pub slab-axes : (s : Slabs) (b : Block) (i : ℕ) → AxesLeave s b → b .i .from ≤ i → i < b .i .to → AxesLeave s (slabAt b i)
 unfolding holds
-row-empty i y s k f z c = go ((between (one i) (c .i) && between (one y) (c .j)) && between k (c .k)) (keptAll s c) refl refl
-  where
-    here : (n x : ℕ) → between (one n) x ≡ true → x ≡ n
-    here n x h =
-        let p = leb-true n x (both-true (leb n x) (ltb x (n + 1)) h .0) in
-        let q = ltb-true x (n + 1) (both-true (leb n x) (ltb x (n + 1)) h .1) in
-        omega arith
+slab-axes s b i u h l =
+    record {
+      leave = λ c g.
+          let x = between (one i) (c .i) in
+          let y = between (b .j) (c .j) in
+          let z = between (b .k) (c .k) in
+          let xy = both-true x y (both-true (x && y) z g .0) in
+          let f : between (b .i) (c .i) ≡ true = ap (between (b .i)) (one-is i (c .i) (xy .0)) ∙ rw (le-leb (b .i .from) i h, lt-ltb i (b .i .to) l) in
+          u .leave c (rw (f, xy .1, both-true (x && y) z g .1));
+    }
 
-    go : (a b : Bool) → ((between (one i) (c .i) && between (one y) (c .j)) && between k (c .k)) ≡ a → keptAll s c ≡ b → (((between (one i) (c .i) && between (one y) (c .j)) && between k (c .k)) && keptAll s c) ≡ false
-    go false b e g = ap (λ (x : Bool). x && keptAll s c) e
-    go true false e g = ap (λ (x : Bool). x && keptAll s c) e ∙ g
-    go true true e g =
-        let ij = both-true (between (one i) (c .i) && between (one y) (c .j)) (between k (c .k)) e .0 in
-        let hi = here i (c .i) (both-true (between (one i) (c .i)) (between (one y) (c .j)) ij .0) in
-        let hj = here y (c .j) (both-true (between (one i) (c .i)) (between (one y) (c .j)) ij .1) in
-        absurd (true≢false (sym (kept-row s c f g) ∙ (λ t. keptRow s (hi t) (hj t)) ∙ z))
+-- cut along j and along k: what is left to test in a row, and that no cell is lost
+module _ (s : Slabs) (fit : SlabsFit s) (b : Block) (i : ℕ) (f e : Ends) (v : Cut (b .j) (acrossZ s i) f) (w : Cut (b .k) (λ k. acrossY s k i) e) where
+  pub line-rest : AxesLeave s (slabAt b i) → (j : ℕ) → f .from ≤ j → j < f .to → LineRest s e i j
+  unfolding holds
+  line-rest u j h l =
+      record {
+        rest = λ x g.
+            let a = both-true (between (b .k) x) (acrossY s x i) (sym (w .places x) ∙ g) in
+            let here : between f j ≡ true = rw (le-leb (f .from) j h, lt-ltb j (f .to) l) in
+            let d = both-true (between (b .j) j) (acrossZ s i j) (sym (v .places j) ∙ here) in
+            let axes = u .leave (record { i = i; j = j; k = x }) (rw (one-here i, d .0, a .0)) in
+            slice-all s fit i j x ∙ rw (axes, d .1, a .1);
+      }
 
-pub line-skip : (placing : Bool) (n t i j : ℕ) (s : Slabs) (k : Ends) (o q : List ℕ) → SlabsFit s → keptRow s i j ≡ false → Visited placing n (gets t (leftIn (lineAt i j k) s) o) o q o q
-line-skip placing n t i j s k o q f z = visited-none n placing (gets t (leftIn (lineAt i j k) s) o) o q (λ p l. gets-none t (leftIn (lineAt i j k) s) o p (row-empty i j s k f z (recordAt o p .cell)))
+  slice-left : (c : Cell) → leftIn (record { i = one i; j = f; k = e }) s c ≡ leftIn (slabAt b i) s c
+  unfolding holds
+  slice-left c = (λ t. between (one i) (c .i) && v .places (c .j) t && w .places (c .k) t && keptAll s c) ∙ go (between (one i) (c .i)) (keptAll s c) refl refl
+    where
+      x : Bool
+      x = between (b .j) (c .j)
+
+      y : Bool
+      y = between (b .k) (c .k)
+
+      lost : (a d : Bool) → ((true && a) && d && false) ≡ false
+      lost true true = refl
+      lost true false = refl
+      lost false d = refl
+
+      go : (p q : Bool) → between (one i) (c .i) ≡ p → keptAll s c ≡ q → (p && (x && acrossZ s i (c .j)) && (y && acrossY s (c .k) i) && q) ≡ (p && x && y && q)
+      go true true g h =
+          let d = one-is i (c .i) g in
+          let all = (λ t. keptAll s (record { i = sym d t; j = c .j; k = c .k })) ∙ h in
+          let k = kept-slice s fit i (c .j) (c .k) all in
+          (λ t. true && (x && k .0 t) && (y && k .1 t) && true) ∙ plain x y
+        where
+          plain : (a d : Bool) → (true && (a && true) && (d && true) && true) ≡ (true && a && d && true)
+          plain true true = refl
+          plain true false = refl
+          plain false d = refl
+      go true false g h = lost (x && acrossZ s i (c .j)) (y && acrossY s (c .k) i) ∙ sym (lost x y)
+      go false q g h = refl
+
+  -- so there is the same room, and the same is given
+  module _ (placing : Bool) (n t : ℕ) (o : List ℕ) where
+    slice-same : (p : ℕ) → p < n → gets t (leftIn (record { i = one i; j = f; k = e }) s) o p ≡ gets t (leftIn (slabAt b i) s) o p
+    slice-same p l = gets-same t (leftIn (record { i = one i; j = f; k = e }) s) (leftIn (slabAt b i) s) o p (slice-left (recordAt o p .cell))
+
+    pub slice-room : (len : ℕ) → Room placing n (gets t (leftIn (slabAt b i) s) o) o len → Room placing n (gets t (leftIn (record { i = one i; j = f; k = e }) s) o) o len
+    slice-room len x = room-same placing n (gets t (leftIn (slabAt b i) s) o) (gets t (leftIn (record { i = one i; j = f; k = e }) s) o) o len (λ p l. sym (slice-same p l)) x
+
+    pub slice-done : (q out list : List ℕ) → Visited placing n (gets t (leftIn (record { i = one i; j = f; k = e }) s) o) o q out list → Visited placing n (gets t (leftIn (slabAt b i) s) o) o q out list
+    slice-done q out list x = visited-same n placing (gets t (leftIn (record { i = one i; j = f; k = e }) s) o) (gets t (leftIn (slabAt b i) s) o) o q out list slice-same x
 
 -- ---- row after row of slab i
 
@@ -280,6 +333,19 @@ module _ (placing : Bool) (n t i : ℕ) (s : Slabs) (j k : Ends) (o q : List ℕ
       }
 
 -- ---- slab after slab of a block
+
+-- the slab where the walk stands is none of those behind it
+apart-i : (s : Slabs) (e : Ends) (n : ℕ) (j k : Ends) (c : Cell) → (leftIn (record { i = upto e n; j = j; k = k }) s c && leftIn (record { i = one n; j = j; k = k }) s c) ≡ false
+unfolding holds
+apart-i s e n j k c = ⊎-elim (λ h. rw (le-ltb (c .i) n h) (never (leb (e .from) (c .i)))) (λ h. rw (lt-leb n (c .i) h) (last (((between (upto e n) (c .i) && between j (c .j)) && between k (c .k)) && keptAll s c))) (le-or-lt n (c .i))
+  where
+    last : (a : Bool) → (a && false) ≡ false
+    last true = refl
+    last false = refl
+
+    never : (a : Bool) → (((((a && false) && between j (c .j)) && between k (c .k)) && keptAll s c) && (((between (one n) (c .i) && between j (c .j)) && between k (c .k)) && keptAll s c)) ≡ false
+    never true = refl
+    never false = refl
 
 abbrev slabsTo : Slabs → Block → ℕ → Cell → Bool
 slabsTo s b y = leftIn (record { i = upto (b .i) y; j = b .j; k = b .k }) s

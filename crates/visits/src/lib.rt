@@ -8,10 +8,10 @@ ghost use Rattle.touch.specs.Slabs.{SlabsFit};
 ghost use Rattle.mesh.specs.Mesh.{triangles};
 ghost use Rattle.mesh.specs.Ranges.{holds};
 ghost use Rattle.marking.specs.Marked.{hits};
-ghost use Rattle.marking.specs.Painted.{leftIn, Ready};
+ghost use Rattle.marking.specs.Painted.{leftIn, AxesLeave, Ready};
 ghost use Rattle.lookup.specs.Lookup.{Table};
 ghost use Rattle.rows.specs.Rows.{gets, Visited, Room};
-ghost use Rattle.visits.specs.Visits.{lineAt, slabAt, allOf};
+ghost use Rattle.visits.specs.Visits.{lineAt, slabAt, LineRest, allOf};
 use grid::Axes;
 use grid::Cell;
 use grid::Placement;
@@ -94,7 +94,7 @@ fn visit_part(
     }
 }
 
-// The part of row (i, j) of a block that the slabs leave. A row that they leave nothing of is passed over first.
+// The part of row (i, j) that the slabs leave of the cells e. What its slab of cells has cut is not tested again.
 fn visit_line(
     records: &mut [u32],
     list: &mut [u32],
@@ -103,22 +103,20 @@ fn visit_line(
     s: Slabs,
     t: u32,
     placing: bool,
-    k: Ends,
+    e: Ends,
     i: usize,
     j: usize,
 )
-    requires { ⌜ Table (now records) n × SlabsFit s ⌝ }
-    requires { ⌜ (i < 256) × (j < 256) × (k .to ≤ 256) × (length (now guesses) ≡ 65536) ⌝ }
-    requires { ⌜ Room placing n (gets t (leftIn (lineAt i j k) s) (now records)) (now records) (length (now list)) ⌝ }
-    ensures { λ _. ⌜ Visited placing n (gets t (leftIn (lineAt i j k) s) (now (records .entry))) (now (records .entry)) (now (list .entry)) (now (records .exit)) (now (list .exit)) ⌝ }
+    requires { ⌜ Table (now records) n × SlabsFit s × LineRest s e i j ⌝ }
+    requires { ⌜ (i < 256) × (j < 256) × (e .to ≤ 256) × (length (now guesses) ≡ 65536) ⌝ }
+    requires { ⌜ Room placing n (gets t (leftIn (lineAt i j e) s) (now records)) (now records) (length (now list)) ⌝ }
+    ensures { λ _. ⌜ Visited placing n (gets t (leftIn (lineAt i j e) s) (now (records .entry))) (now (records .entry)) (now (list .entry)) (now (records .exit)) (now (list .exit)) ⌝ }
 {
-    if touch::row_within(s, i, j) {
-        let e = intervals::row_along_k(s, k, i, j);
-        visit_part(records, list, guesses, n, t, placing, e, i, j);
-    }
+    let left = intervals::rest_along_k(s, e, i, j);
+    visit_part(records, list, guesses, n, t, placing, left, i, j);
 }
 
-// The rows of slab i of a block.
+// The rows of slab i of a block. What does not depend on j, or not on k, is cut here.
 fn visit_slab(
     records: &mut [u32],
     list: &mut [u32],
@@ -130,16 +128,17 @@ fn visit_slab(
     b: Block,
     i: usize,
 )
-    requires { ⌜ Table (now records) n × SlabsFit s ⌝ }
+    requires { ⌜ Table (now records) n × SlabsFit s × AxesLeave s (slabAt b i) ⌝ }
     requires { ⌜ (i < 256) × (b .j .to ≤ 256) × (b .k .to ≤ 256) × (length (now guesses) ≡ 65536) ⌝ }
     requires { ⌜ Room placing n (gets t (leftIn (slabAt b i) s) (now records)) (now records) (length (now list)) ⌝ }
     ensures { λ _. ⌜ Visited placing n (gets t (leftIn (slabAt b i) s) (now (records .entry))) (now (records .entry)) (now (list .entry)) (now (records .exit)) (now (list .exit)) ⌝ }
 {
-    let to = b.j.to;
-    let k = b.k;
-    let mut j = b.j.from;
+    let f = intervals::slice_along_j(s, b.j, i);
+    let e = intervals::slice_along_k(s, b.k, i);
+    let to = f.to;
+    let mut j = f.from;
     while j < to {
-        visit_line(records, list, guesses, n, s, t, placing, k, i, j);
+        visit_line(records, list, guesses, n, s, t, placing, e, i, j);
         j += 1;
     }
 }
@@ -154,7 +153,7 @@ fn visit_block(
     placing: bool,
     b: Block,
 )
-    requires { ⌜ Table (now records) n × SlabsFit s ⌝ }
+    requires { ⌜ Table (now records) n × SlabsFit s × AxesLeave s b ⌝ }
     requires { ⌜ (b .i .to ≤ 256) × (b .j .to ≤ 256) × (b .k .to ≤ 256) × (length (now guesses) ≡ 65536) ⌝ }
     requires { ⌜ Room placing n (gets t (leftIn b s) (now records)) (now records) (length (now list)) ⌝ }
     ensures { λ _. ⌜ Visited placing n (gets t (leftIn b s) (now (records .entry))) (now (records .entry)) (now (list .entry)) (now (records .exit)) (now (list .exit)) ⌝ }

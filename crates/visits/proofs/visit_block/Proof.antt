@@ -4,7 +4,7 @@ use Rattle.visits.proofs.visit_block.Tie as tie
 use Prim.Native.Nat.{_-_}
 use native.Mathlib.Omega.{arith}
 use Rattle.rows.proofs.Visiting.{visited-size}
-use Rattle.visits.proofs.Sweeping.{Blocking, blocking-first, blocking-done, blocking-on, block-table, slab-room}
+use Rattle.visits.proofs.Sweeping.{Blocking, blocking-first, blocking-done, blocking-on, block-table, slab-room, slab-axes}
 
 abbrev Inv-loop : tie.InvT-loop
 Inv-loop records₀ list₀ guesses n s t placing b to i₀ records list i = Blocking placing n t s b records₀ list₀ records list i
@@ -18,7 +18,7 @@ loop-holds c = let a = c .before .before .before .args in let p = c .before .bef
 visit-slab-requires : tie.Need-visit-slab-requires Inv-loop μ-loop
 visit-slab-requires c κs =
     let a = c .before .before .before .before .before .before .before .args in let p = c .before .before .before .before .before .before .before .pre in let q = p .1 .0 in let w = c .before .before .before .loop .inv in let l = c .before .before .loop-test .taken in (
-      (block-table (a .placing) (a .n) (a .t) (a .s) (a .b) (a .records .now) (a .list .now) _ (p .0 .0) (p .1 .1) _ _ _ w, p .0 .1),
+      (block-table (a .placing) (a .n) (a .t) (a .s) (a .b) (a .records .now) (a .list .now) _ (p .0 .0) (p .1 .1) _ _ _ w, p .0 .1, slab-axes (a .s) (a .b) (c .before .before .before .loop .i) (p .0 .2) (w .walk .low) l),
       (
         (omega (arith, l, q .0), q .1, q .2, q .3),
         slab-room (a .placing) (a .n) (a .t) (a .s) (a .b) (a .records .now) (a .list .now) _ (p .0 .0) (p .1 .1) _ _ _ w l _ (visited-size _ _ _ _ _ _ _ (w .visits)),

@@ -21,7 +21,7 @@ cast-visit-block c = let p = c .before .before .before .before .before .before .
 visit-block-requires : tie.Need-visit-block-requires
 visit-block-requires c κs =
     let a = c .before .before .before .before .before .before .before .before .args in let p = c .before .before .before .before .before .before .before .before .pre in let w = c .before .before .sweep-of .ensures in let s = p .0 .1 in (
-      (p .0 .0, w .fit),
+      (p .0 .0, w .fit, w .axial),
       (
         (omega (arith, w .i-in, s .axis0 .most), omega (arith, w .j-in, s .axis1 .most), omega (arith, w .k-in, s .axis2 .most), p .0 .2),
         room-same (a .placing) (a .n) (gets (a .t) (hits (a .ps .now) (a .ts .now) (a .r) (a .at) (a .t)) (a .records .now)) (gets (a .t) (leftIn (c .before .before .sweep-of .result .block) (c .before .before .sweep-of .result .slabs)) (a .records .now)) (a .records .now) _
