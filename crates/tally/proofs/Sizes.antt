@@ -156,6 +156,10 @@ module _ (s : Slabs) (e : Ends) (n : ℕ) where
   swap false true = refl
   swap false false = refl
 
+  pub apart-i : (j k : Ends) (c : Cell) → (leftIn (record { i = upto e n; j = j; k = k }) s c && leftIn (record { i = one n; j = j; k = k }) s c) ≡ false
+  unfolding holds
+  apart-i j k c = cross (between (upto e n) (c .i)) (between (one n) (c .i)) (between j (c .j)) (between k (c .k)) (keptAll s c) (behind e n (c .i))
+
   pub apart-j : (i k : Ends) (c : Cell) → (leftIn (record { i = i; j = upto e n; k = k }) s c && leftIn (record { i = i; j = one n; k = k }) s c) ≡ false
   unfolding holds
   apart-j i k c =

@@ -11,7 +11,7 @@ div-result : tie.Need-div-result
 div-result c = search needs
 
 add-result : tie.Need-add-result
-add-result c = record { fits = lt-of-le-of-lt (omega (arith, div-le-self (c .args .h) (c .args .step), c .pre .1)) (lit< {m = 2 ^ 62} tt) }
+add-result c = record { fits = lt-of-le-of-lt (omega (arith, div-le-self (c .args .h) (c .args .step), c .pre .1)) (lit< {m = 2 ^ 63} tt) }
 
 returns : tie.Need-returns
 returns c = search needs

@@ -24,7 +24,7 @@ rest-along-i-requires c κs =
     let p = c .before .pre in
     let s = p .0 .sound in
     let h = p .1 .1 in
-    (le-trans (h .0) (s .axis0 .most), p .1 .0 .0, omega (arith, h .1, s .axis1 .most), omega (arith, h .2, s .axis2 .most))
+    (le-trans (h .0) (s .axis0 .most), p .1 .0 .0, omega (arith, h .1, h .2, s .axis1 .most, s .axis2 .most), omega (arith, h .1, h .2, s .axis1 .most, s .axis2 .most))
 
 -- the cell of a turn is one of the grid
 here : (c : tie.In-loop Inv-loop μ-loop) → InGrid (c .before .before .before .before .args .r) (record { i = c .before .loop .i; j = c .before .before .before .before .args .j; k = c .before .before .before .before .args .k })
