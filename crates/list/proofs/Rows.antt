@@ -1,21 +1,20 @@
 -- Laws of records in list order: their length, one list of cells after another; how many cells are listed; and the pass that writes them. Assumes nothing.
-use mathlib.Core.Bool.{Bool, true, false}
+use mathlib.Core.Bool.{true, false}
 use mathlib.Core.Path.{_≡_, refl, sym, ap, subst, _∙_}
 use mathlib.Core.List.{List, [], _∷_, _++_, append-assoc, append-nil}
 use Prim.Native.Nat.{ℕ, zero, suc, _+_, _*_, _-_, _≤_, _<_}
 use native.Mathlib.Nat.{suc-mul}
 use native.Mathlib.Omega.{arith}
-use lib.Dec.{eqb}
 use lib.ListN.{length, getD, take, length-append}
-use borrow.Author.Tests.{eqb-true, ne-eqb}
 use Rattle.grid.specs.declared.Axes.{Axes}
 use Rattle.grid.specs.declared.Cell.{Cell}
-use Rattle.grid.specs.Counts.{count, countOf}
+use Rattle.grid.specs.Counts.{count}
 use Rattle.grid.specs.Grid.{Sheet, at}
 use Rattle.grid.proofs.Cells.{cells-max}
+use Rattle.grid.proofs.Counts.{count-most}
 use Rattle.order.specs.Order.{row, rows, slabs, keep, joinAll}
 use Rattle.order.specs.Output.{Written}
-use Rattle.order.proofs.Orders.{by-bool, keep-yes, keep-no, keep-append}
+use Rattle.order.proofs.Orders.{keep-yes, keep-no, keep-append}
 use Rattle.order.proofs.Outputs.{append-left, written-none, written-then}
 use Rattle.order.proofs.Sums.{kept-count}
 use Rattle.listed.specs.declared.Listed.{Listed}
@@ -81,26 +80,9 @@ none-joined (c ∷ cs) = none-joined cs
 
 -- ---- how many cells are listed
 
--- labels 7 and labels 8
-count-either : (l : List ℕ) → count isListed l ≡ countOf 7 l + countOf 8 l
-unfolding count
-count-either [] = refl
-count-either (v ∷ l) =
-    by-bool (eqb v 7)
-    (λ e. rw (e, ne-eqb v 8 (other v (eqb-true v 7 e))) (omega (arith, count-either l)))
-    (λ e. rw e (omega (arith, count-either l)))
-  where
-    other : (v : ℕ) → v ≡ 7 → v ≡ 8 → ⊥
-    other v e h = omega arith
-
-count-most : (ok : ℕ → Bool) (l : List ℕ) → count ok l ≤ length l
-unfolding count
-count-most ok [] = omega arith
-count-most ok (v ∷ l) = by-bool (ok v) (λ e. rw e (omega (arith, count-most ok l))) (λ e. rw e (omega (arith, count-most ok l)))
-
 module _ (r : Axes) (l : List ℕ) (h : Sheet r l) where
-  pub listed-count : countOf 7 l + countOf 8 l ≡ length (listed r l)
-  listed-count = sym (kept-count r l isListed (h .size) ∙ count-either l)
+  pub listed-count : count isListed l ≡ length (listed r l)
+  listed-count = sym (kept-count r l isListed (h .size))
 
   pub listed-few : length (listed r l) ≤ 16777216
   listed-few = omega (arith, kept-count r l isListed (h .size), count-most isListed l, h .size, cells-max r (h .sound))

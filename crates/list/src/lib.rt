@@ -1,4 +1,5 @@
 // The cell list without pairs: a record for each cell 7 and 8, in list order.
+ghost use mathlib.Core.Bool.{cond};
 ghost use mathlib.Core.Path.{_≡_};
 ghost use Prim.Native.Nat.{_+_, _*_, _≤_, _<_};
 ghost use lib.ListN.{length};
@@ -25,18 +26,30 @@ pub enum Listing {
     Refused(Refusal),
 }
 
-// How many cells are listed: counted in memory order.
-pub fn count_cells(labels: &[u8], r: Axes) -> usize
-    requires { ⌜ Sheet r (now labels) ⌝ }
-    ensures { λ n. ⌜ (n ≡ length (listed r (now (labels .entry)))) × (n ≤ 16777216) ⌝ }
-{
-    grid::count_label(labels, 7) + grid::count_label(labels, 8)
-}
-
 fn is_listed(label: u8) -> bool
     ensures { λ b. ⌜ b ≡ isListed label ⌝ }
 {
     (label == 7) | (label == 8)
+}
+
+fn one_if_listed(label: u8) -> u32
+    ensures { λ n. ⌜ n ≡ cond (isListed label) 1 0 ⌝ }
+{
+    if is_listed(label) { 1 } else { 0 }
+}
+
+// How many cells are listed: counted in memory order, in 32 bits, which is faster than in 64.
+pub fn count_cells(labels: &[u8], r: Axes) -> usize
+    requires { ⌜ Sheet r (now labels) ⌝ }
+    ensures { λ n. ⌜ (n ≡ length (listed r (now (labels .entry)))) × (n ≤ 16777216) ⌝ }
+{
+    let mut n = 0u32;
+    let mut i = 0usize;
+    while i < labels.len() {
+        n += one_if_listed(labels[i]);
+        i += 1;
+    }
+    n as usize
 }
 
 fn flag_of(label: u8) -> u32
