@@ -15,11 +15,17 @@ use touch::Slab;
 use touch::Slabs;
 use touch::Three;
 
+// The step along an axis: a cell's side in parts. To divide by a power of 2 that is known is to shift.
+const SIDE: usize = 256;
+
 // The first place where a line of values step * x is above h.
 fn above(h: usize, step: usize) -> usize
     requires { ⌜ (0 < step) × (h < 2 ^ 62) ⌝ }
     ensures { λ n. ⌜ n ≡ h / step + 1 ⌝ }
 {
+    if step == SIDE {
+        return h / SIDE + 1;
+    }
     h / step + 1
 }
 
