@@ -1,11 +1,13 @@
 // The refusals of lent points, triangles, grid and placement.
 ghost use mathlib.Core.Path.{_≡_};
-ghost use Prim.Native.Nat.{_/_};
+ghost use mathlib.Core.Bool.{true};
+ghost use Prim.Native.Nat.{ℕ, _/_, _<_};
 ghost use lib.Dec.{ltb};
 ghost use Rattle.grid.specs.Answers.{faultIf};
 ghost use Rattle.grid.specs.declared.Checked.the-variants.{Fine};
 ghost use Rattle.grid.specs.First.{firstNot};
 ghost use Rattle.grid.specs.Grid.{Sound};
+ghost use Rattle.sizing.specs.Sizing.{points};
 ghost use Rattle.mesh.specs.Mesh.{vertexOf, onGrid};
 ghost use Rattle.mesh.specs.Faults.{originFault, names, missingFault, lentFault, offFault, lengthsFault, lentNumbersFault, inputFault, meshFault};
 ghost use Rattle.mesh.specs.Ranges.{Named};
@@ -116,12 +118,36 @@ fn first_off(ps: &[f32], ts: &[u32], r: Axes, at: Placement) -> usize
     k
 }
 
+// Whether the points are at most so many and each falls on a cell. Then no corner is off the grid, and fewer
+// points than corners are asked; `false` tells nothing.
+fn few_and_on(ps: &[f32], r: Axes, at: Placement, most: usize) -> bool
+    requires { ⌜ Sound r ⌝ }
+    ensures { λ b. ⌜ (b ≡ true → (v : ℕ) → v < points (now (ps .entry)) → onGrid r (vertexOf (now (ps .entry)) at v) ≡ true) ⌝ }
+{
+    let n = ps.len() / 3;
+    if most < n {
+        return false;
+    }
+    let mut v = 0usize;
+    while v < n {
+        if mesh::on_grid(mesh::vertex_of(ps, at, v), r) {
+            v += 1;
+        } else {
+            return false;
+        }
+    }
+    true
+}
+
 // Refusal 10.
 fn off_fault(ps: &[f32], ts: &[u32], r: Axes, at: Placement) -> Checked
     requires { ⌜ Named (now ps) (now ts) ⌝ }
     requires { ⌜ Sound r ⌝ }
     ensures { λ f. ⌜ f ≡ offFault (now (ps .entry)) (now (ts .entry)) r at ⌝ }
 {
+    if few_and_on(ps, r, at, ts.len()) {
+        return Checked::Fine;
+    }
     corner_fault(10, first_off(ps, ts, r, at), ts.len())
 }
 

@@ -1,7 +1,7 @@
 -- 01, List, classes, planes, boxes: the cell list, with and without pairs. Definitions only.
 use mathlib.Core.Bool.{Bool, cond, _||_}
 use mathlib.Core.List.{List, [], _∷_, _++_}
-use Prim.Native.Nat.{ℕ, _+_, _*_}
+use Prim.Native.Nat.{ℕ, _+_, _*_, _≤_}
 use lib.Dec.{eqb}
 use lib.ListN.{length}
 use Rattle.grid.specs.declared.Axes.{Axes}
@@ -46,6 +46,19 @@ recordsOf r l trianglesOf = recordsFrom r l trianglesOf 0 (listed r l)
 -- "Without pairs every range is 0..0": no cell has triangles
 abbrev pub plainRecords : Axes → List ℕ → List ℕ
 plainRecords r l = recordsOf r l (λ c. [])
+
+-- ---- the same of a part of the grid, which its loops write: of some cells those that are listed, and their records
+
+abbrev pub listedIn : Axes → List ℕ → List Cell → List Cell
+listedIn r l cs = keep (λ c. isListed (at r l c)) cs
+
+abbrev pub plainIn : Axes → List ℕ → List Cell → List ℕ
+plainIn r l cs = recordsFrom r l (λ c. []) 0 (listedIn r l cs)
+
+-- room for them, from record p on
+pub record RoomFrom (p : ℕ) (cs : List Cell) (o : List ℕ) : Type 0 where
+  pub room : (p + length cs) * width ≤ length o
+  pub few : p + length cs ≤ 16777216
 
 -- ---- the whole call without pairs: 8, 9, 11 and 14
 

@@ -29,6 +29,10 @@ module _ (o : List ℕ) (n : ℕ) where
     pub behind-at : keyAt o m < a → Behind o n a m
     behind-at h = record { most = omega arith; under = λ p g. let k = w .up p m g l in omega arith }
 
+    -- and so has one at the bound
+    pub behind-here : keyAt o m ≡ a → Behind o n a m
+    behind-here h = record { most = omega arith; under = λ p g. let k = w .up p m g l in omega arith }
+
     pub behind-past : keyAt o m < a → Behind o n a (m + 1)
     behind-past h = record {
       most = omega arith;

@@ -74,7 +74,7 @@ fn window(records: &[u32], n: usize, from: usize, near: usize, want: usize) -> E
 
 // The first record whose key is `want` or more, which lies from `from` on; or n. It is looked for about
 // record `near` first.
-pub fn find(records: &[u32], n: usize, from: usize, near: usize, want: usize) -> usize
+fn search(records: &[u32], n: usize, from: usize, near: usize, want: usize) -> usize
     requires { ⌜ Table (now records) n × Behind (now records) n want from ⌝ }
     ensures { λ x. ⌜ Behind (now (records .entry)) n want x × Ahead (now (records .entry)) n want x × (from ≤ x) ⌝ }
 {
@@ -90,4 +90,18 @@ pub fn find(records: &[u32], n: usize, from: usize, near: usize, want: usize) ->
         }
     }
     lo
+}
+
+// The same, where record `near` is often the one.
+pub fn find(records: &[u32], n: usize, from: usize, near: usize, want: usize) -> usize
+    requires { ⌜ Table (now records) n × Behind (now records) n want from ⌝ }
+    ensures { λ x. ⌜ Behind (now (records .entry)) n want x × Ahead (now (records .entry)) n want x × (from ≤ x) ⌝ }
+{
+    if (near < from) | (n <= near) {
+        return search(records, n, from, near, want);
+    }
+    if key_at(records, n, near) == want {
+        return near;
+    }
+    search(records, n, from, near, want)
 }

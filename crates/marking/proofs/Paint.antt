@@ -16,14 +16,16 @@ use Rattle.grid.proofs.First.{le-or-lt, both-true}
 use Rattle.grid.proofs.Cells.{cell-path, sheet-kept, stored}
 use Rattle.touch.specs.declared.Slabs.{Slabs}
 use Rattle.touch.specs.Touch.{touching}
-use Rattle.touch.specs.Slabs.{keptAll, slabsOf}
+use Rattle.touch.specs.Slabs.{keptAll, slabsOf, SlabsFit}
 use Rattle.touch.proofs.Laws.{slabs-touch}
 use Rattle.mesh.specs.declared.Ends.{Ends}
 use Rattle.mesh.specs.declared.Block.{Block}
 use Rattle.mesh.specs.Mesh.{isCandidate}
 use Rattle.mesh.specs.Ranges.{BlockOf, between, holds}
 use Rattle.mesh.proofs.Laws.{block-test}
-use Rattle.marking.specs.Painted.{Painted, leftIn, one, rowOf}
+use Rattle.intervals.specs.Intervals.{Cut, Clipped, axesLeave, acrossX, acrossY, restOfRow}
+use Rattle.intervals.proofs.Laws.{layer-all, kept-axes, kept-x, kept-y}
+use Rattle.marking.specs.Painted.{Painted, leftIn, one, rowOf, layerOf, AxesLeave, RowRest}
 
 -- ---- painting
 
@@ -223,30 +225,145 @@ holds-is i j k c h =
     cell-path c (record { i = i; j = j; k = k }) (one-is i (c .i) (both-true x y xy .0)) (one-is j (c .j) (both-true x y xy .1)) (one-is k (c .k) (both-true (x && y) z h .1))
 
 -- a store at a cell paints it alone
-pub painted-cell : (r : Axes) (s : Slabs) (l : List ℕ) (i j k w : ℕ) → Sheet r l → InGrid r (record { i = i; j = j; k = k })
-    → w ≡ cond (keptAll s (record { i = i; j = j; k = k })) 8 (at r l (record { i = i; j = j; k = k }))
-    → Painted r (leftIn (rowOf (one i) j k) s) l (set l (num r (record { i = i; j = j; k = k })) w)
-painted-cell r s l i j k w h g e =
+pub painted-cell : (r : Axes) (l : List ℕ) (i j k : ℕ) → Sheet r l → InGrid r (record { i = i; j = j; k = k })
+    → Painted r (holds (rowOf (one i) j k)) l (set l (num r (record { i = i; j = j; k = k })) 8)
+painted-cell r l i j k h g =
     record {
-      size = length-set l (num r d) w;
-      labels = λ c in-c. stored r l w c d in-c g (h .size) (λ q v. v ∙ e ∙ same c q) (λ z v. v ∙ other c z);
+      size = length-set l (num r d) 8;
+      labels = λ c in-c. stored r l 8 c d in-c g (h .size) (λ q v. v ∙ same c q) (λ z v. v ∙ other c z);
     }
   where
     d : Cell
     d = record { i = i; j = j; k = k }
 
-    here : leftIn (rowOf (one i) j k) s d ≡ keptAll s d
-    here = ap (λ (t : Bool). t && keptAll s d) (holds-here i j k)
+    same : (c : Cell) → c ≡ d → 8 ≡ cond (holds (rowOf (one i) j k) c) 8 (at r l c)
+    same c q = sym (ap (λ (t : Bool). cond t 8 (at r l c)) (ap (holds (rowOf (one i) j k)) q ∙ holds-here i j k))
 
-    same : (c : Cell) → c ≡ d → cond (keptAll s d) 8 (at r l d) ≡ cond (leftIn (rowOf (one i) j k) s c) 8 (at r l c)
-    same c q = sym (ap (λ (x : Cell). cond (leftIn (rowOf (one i) j k) s x) 8 (at r l x)) q ∙ ap (λ (t : Bool). cond t 8 (at r l d)) here)
-
-    other : (c : Cell) → (c ≡ d → ⊥) → at r l c ≡ cond (leftIn (rowOf (one i) j k) s c) 8 (at r l c)
+    other : (c : Cell) → (c ≡ d → ⊥) → at r l c ≡ cond (holds (rowOf (one i) j k) c) 8 (at r l c)
     other c z = go (holds (rowOf (one i) j k) c) refl
       where
-        go : (t : Bool) → holds (rowOf (one i) j k) c ≡ t → at r l c ≡ cond (leftIn (rowOf (one i) j k) s c) 8 (at r l c)
+        go : (t : Bool) → holds (rowOf (one i) j k) c ≡ t → at r l c ≡ cond (holds (rowOf (one i) j k) c) 8 (at r l c)
         go true f = absurd (z (holds-is i j k c f))
-        go false f = sym (ap (λ (t : Bool). cond (t && keptAll s c) 8 (at r l c)) f)
+        go false f = sym (ap (λ (t : Bool). cond t 8 (at r l c)) f)
+
+-- ---- the whole of a row: no place yet, one more, every place; and it is what the slabs leave of another
+module _ (e : Ends) (j k : ℕ) where
+  pub none-held : (c : Cell) → holds (rowOf (upto e (e .from)) j k) c ≡ false
+  unfolding holds
+  none-held c = ap (λ (t : Bool). t && between (one j) (c .j) && between (one k) (c .k)) (upto-none e (c .i))
+
+  pub more-held : (n : ℕ) → Walk e n → (c : Cell) → holds (rowOf (upto e (n + 1)) j k) c ≡ (holds (rowOf (upto e n) j k) c || holds (rowOf (one n) j k) c)
+  unfolding holds
+  more-held n w c =
+      ap (λ (t : Bool). t && between (one j) (c .j) && between (one k) (c .k)) (upto-more e n w (c .i))
+      ∙ share-two (between (upto e n) (c .i)) (between (one n) (c .i)) (between (one j) (c .j)) (between (one k) (c .k))
+
+  pub done-held : (n : ℕ) → Walk e n → e .to ≤ n → (c : Cell) → holds (rowOf (upto e n) j k) c ≡ holds (rowOf e j k) c
+  unfolding holds
+  done-held n w h c = ap (λ (t : Bool). t && between (one j) (c .j) && between (one k) (c .k)) (upto-done e n w h (c .i))
+
+  pub held-left : (s : Slabs) (a : Ends) → RowRest s e j k → Cut e (restOfRow s j k) a → (c : Cell) → holds (rowOf a j k) c ≡ leftIn (rowOf e j k) s c
+  unfolding holds
+  held-left s a u w c = go (between (one j) (c .j)) (between (one k) (c .k)) refl refl
+    where
+      x : Bool
+      x = between a (c .i)
+
+      y : Bool
+      y = between e (c .i)
+
+      d : Cell
+      d = record { i = c .i; j = j; k = k }
+
+      both : (x y k : Bool) → x ≡ (y && k) → (x && true && true) ≡ (y && true && true && k)
+      both true true k h = h
+      both false true k h = h
+      both true false k h = h
+      both false false k h = h
+
+      no-j : (x y z k : Bool) → (x && false && z) ≡ (y && false && z && k)
+      no-j true true z k = refl
+      no-j true false z k = refl
+      no-j false true z k = refl
+      no-j false false z k = refl
+
+      no-k : (x y k : Bool) → (x && true && false) ≡ (y && true && false && k)
+      no-k true true k = refl
+      no-k true false k = refl
+      no-k false true k = refl
+      no-k false false k = refl
+
+      whole : (t : Bool) → between e (c .i) ≡ t → (t && restOfRow s j k (c .i)) ≡ (t && keptAll s d)
+      whole true f = sym (u .rest (c .i) f)
+      whole false f = refl
+
+      go : (p q : Bool) → between (one j) (c .j) ≡ p → between (one k) (c .k) ≡ q → (x && p && q) ≡ (y && p && q && keptAll s c)
+      go true true f g =
+          both x y (keptAll s c) (w .places (c .i) ∙ whole y refl ∙ ap (λ (t : Bool). y && t) (sym (ap (keptAll s) (cell-path c d refl (one-is j (c .j) f) (one-is k (c .k) g)))))
+      go true false f g = no-k x y (keptAll s c)
+      go false q f g = no-j x y q (keptAll s c)
+
+-- ---- a layer of a block that the axes leave
+
+pub layer-axes : (s : Slabs) (b : Block) (k : ℕ) → AxesLeave s b → b .k .from ≤ k → k < b .k .to → AxesLeave s (layerOf b k)
+unfolding holds
+layer-axes s b k u h l =
+    record {
+      leave = λ c g.
+          let i = between (b .i) (c .i) in
+          let j = between (b .j) (c .j) in
+          let e = one-is k (c .k) (both-true (i && j) (between (one k) (c .k)) g .1) in
+          let f : between (b .k) (c .k) ≡ true = ap (between (b .k)) e ∙ rw (le-leb (b .k .from) k h, lt-ltb k (b .k .to) l) in
+          u .leave c (rw (both-true (i && j) (between (one k) (c .k)) g .0, f));
+    }
+
+-- cut along i and along j: what is left to test in a row, and that no cell is lost
+module _ (s : Slabs) (fit : SlabsFit s) (b : Block) (k : ℕ) (e f : Ends) (v : Cut (b .i) (acrossY s k) e) (w : Cut (b .j) (acrossX s k) f) where
+  pub row-rest : AxesLeave s (layerOf b k) → (j : ℕ) → f .from ≤ j → j < f .to → RowRest s e j k
+  unfolding holds
+  row-rest u j h l =
+      record {
+        rest = λ x g.
+            let a = both-true (between (b .i) x) (acrossY s k x) (sym (v .places x) ∙ g) in
+            let here : between f j ≡ true = rw (le-leb (f .from) j h, lt-ltb j (f .to) l) in
+            let d = both-true (between (b .j) j) (acrossX s k j) (sym (w .places j) ∙ here) in
+            let axes = u .leave (record { i = x; j = j; k = k }) (rw (a .0, d .0, one-here k)) in
+            layer-all s fit x j k ∙ rw (axes, d .1, a .1);
+      }
+
+  pub layer-left : (c : Cell) → leftIn (record { i = e; j = f; k = one k }) s c ≡ leftIn (layerOf b k) s c
+  unfolding holds
+  layer-left c = (λ t. v .places (c .i) t && w .places (c .j) t && between (one k) (c .k) && keptAll s c) ∙ go (between (one k) (c .k)) (keptAll s c) refl refl
+    where
+      x : Bool
+      x = between (b .i) (c .i)
+
+      y : Bool
+      y = between (b .j) (c .j)
+
+      none : (a d : Bool) → (a && d && false) ≡ false
+      none true true = refl
+      none true false = refl
+      none false d = refl
+
+      lost : (a d : Bool) → (a && d && true && false) ≡ false
+      lost true true = refl
+      lost true false = refl
+      lost false d = refl
+
+      go : (p q : Bool) → between (one k) (c .k) ≡ p → keptAll s c ≡ q → ((x && acrossY s k (c .i)) && (y && acrossX s k (c .j)) && p && q) ≡ (x && y && p && q)
+      go true true g h =
+          let d = cell-path c (record { i = c .i; j = c .j; k = k }) refl refl (one-is k (c .k) g) in
+          let all = sym (ap (keptAll s) d) ∙ h in
+          (λ t. (x && kept-y s fit (c .i) (c .j) k all t) && (y && kept-x s fit (c .i) (c .j) k all t) && true && true) ∙ plain x y
+        where
+          plain : (a d : Bool) → ((a && true) && (d && true) && true && true) ≡ (a && d && true && true)
+          plain true true = refl
+          plain true false = refl
+          plain false d = refl
+      go true false g h = lost (x && acrossY s k (c .i)) (y && acrossX s k (c .j)) ∙ sym (lost x y)
+      go false q g h =
+          ap (λ (t : Bool). t && q) (none (x && acrossY s k (c .i)) (y && acrossX s k (c .j))) ∙ sym (ap (λ (t : Bool). t && q) (none x y))
 
 -- ---- a loop along an axis that stands at n, and has painted a set
 
@@ -268,3 +385,19 @@ module _ (r : Axes) (e : Ends) where
 pub left-hits : (t : List (List ℤ)) (r : Axes) (b : Block) (s : Slabs) → BlockOf t r b → s ≡ slabsOf t → (c : Cell) → leftIn b s c ≡ (isCandidate t r c && touching t c)
 left-hits t r b s w e c =
     ap (λ (x : Bool). x && keptAll s c) (block-test t r b w c) ∙ ap (λ (x : Bool). isCandidate t r c && x) (ap (λ (x : Slabs). keptAll x c) e ∙ slabs-touch t c)
+
+-- and nothing of it is lost where the axes cut the block
+pub clip-left : (s : Slabs) (b a : Block) → SlabsFit s → Clipped (s .axes) b a → (c : Cell) → leftIn a s c ≡ leftIn b s c
+clip-left s b a f w c = ap (λ (t : Bool). t && keptAll s c) (w .cells c) ∙ go (keptAll s c) refl
+  where
+    none : (x : Bool) → (x && false) ≡ false
+    none true = refl
+    none false = refl
+
+    go : (q : Bool) → keptAll s c ≡ q → ((holds b c && axesLeave (s .axes) c) && q) ≡ (holds b c && q)
+    go true h = ap (λ (t : Bool). (holds b c && t) && true) (kept-axes s f (c .i) (c .j) (c .k) h) ∙ ap (λ (t : Bool). t && true) (whole (holds b c))
+      where
+        whole : (x : Bool) → (x && true) ≡ x
+        whole true = refl
+        whole false = refl
+    go false h = none (holds b c && axesLeave (s .axes) c) ∙ sym (none (holds b c))

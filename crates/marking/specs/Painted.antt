@@ -13,7 +13,8 @@ use Rattle.touch.specs.declared.Slabs.{Slabs}
 use Rattle.touch.specs.Slabs.{keptAll, SlabsFit}
 use Rattle.mesh.specs.declared.Ends.{Ends}
 use Rattle.mesh.specs.declared.Block.{Block}
-use Rattle.mesh.specs.Ranges.{Named, OnGrid, holds}
+use Rattle.mesh.specs.Ranges.{Named, OnGrid, between, holds}
+use Rattle.intervals.specs.Intervals.{axesLeave, restOfRow}
 use Rattle.marking.specs.declared.Sweep.{Sweep}
 use Rattle.marking.specs.Marked.{hits}
 
@@ -35,15 +36,23 @@ rowOf e j k = record { i = e; j = one j; k = one k }
 abbrev pub layerOf : Block → ℕ → Block
 layerOf b k = record { i = b .i; j = b .j; k = one k }
 
+-- the axes leave every cell of a block; in a row that has been cut so far, the rest of the directions decide
+pub record AxesLeave (s : Slabs) (b : Block) : Type 0 where
+  pub leave : (c : Cell) → holds b c ≡ true → axesLeave (s .axes) c ≡ true
+
+pub record RowRest (s : Slabs) (e : Ends) (j k : ℕ) : Type 0 where
+  pub rest : (x : ℕ) → between e x ≡ true → keptAll s (record { i = x; j = j; k = k }) ≡ restOfRow s j k x
+
 -- a mesh without fault
 pub record Ready (ps : List Float) (ts : List ℕ) (r : Axes) (at : Placement) : Type 0 where
   pub named : Named ps ts
   pub on : OnGrid ps ts r at
   pub few : length ts ≤ 196608
 
--- a triangle's candidates lie in the grid, there is one, and its slabs leave of them the cells that it hits
+-- of a triangle's candidates, a block in the grid that the axes leave; there is one, and its slabs leave of them the cells that it hits
 pub record Sweeps (ps : List Float) (ts : List ℕ) (r : Axes) (at : Placement) (t : ℕ) (s : Sweep) : Type 0 where
   pub fit : SlabsFit (s .slabs)
+  pub axial : AxesLeave (s .slabs) (s .block)
   pub i-in : s .block .i .to ≤ r .r0
   pub j-in : s .block .j .to ≤ r .r1
   pub k-in : s .block .k .to ≤ r .r2

@@ -1,5 +1,4 @@
 // Marking: which cells the steel passes through.
-ghost use mathlib.Core.Bool.{cond};
 ghost use mathlib.Core.Path.{_≡_};
 ghost use Prim.Native.Nat.{_≤_, _<_};
 ghost use lib.ListN.{length, replicate};
@@ -7,7 +6,7 @@ ghost use Rattle.grid.specs.Grid.{Sound, Sheet};
 ghost use Rattle.touch.specs.Slabs.{SlabsFit};
 ghost use Rattle.mesh.specs.Mesh.{triangles};
 ghost use Rattle.marking.specs.Marked.{outcome, hits, isSurface, markAnswer, markLabels};
-ghost use Rattle.marking.specs.Painted.{Painted, leftIn, rowOf, layerOf, Ready, Sweeps};
+ghost use Rattle.marking.specs.Painted.{Painted, leftIn, rowOf, layerOf, AxesLeave, RowRest, Ready, Sweeps};
 use grid::Axes;
 use grid::Cell;
 use grid::Checked;
@@ -39,39 +38,34 @@ fn clear(labels: &mut [u8])
     }
 }
 
-fn mark_if(touched: bool, label: u8) -> u8
-    ensures { λ v. ⌜ v ≡ cond touched 8 label ⌝ }
-{
-    if touched { 8 } else { label }
-}
-
-// The cells of a row, in memory order.
+// Of a row the part that the slabs leave, in memory order. What its layer has cut is not tested again.
 fn mark_row(labels: &mut [u8], s: Slabs, r: Axes, e: Ends, j: usize, k: usize)
     requires { ⌜ Sheet r (now labels) ⌝ }
-    requires { ⌜ SlabsFit s ⌝ }
+    requires { ⌜ SlabsFit s × RowRest s e j k ⌝ }
     requires { ⌜ (e .to ≤ r .r0) × (j < r .r1) × (k < r .r2) ⌝ }
     ensures { λ _. ⌜ Painted r (leftIn (rowOf e j k) s) (now (labels .entry)) (now (labels .exit)) ⌝ }
 {
-    let to = e.to;
-    let mut i = e.from;
+    let left = intervals::rest_along_i(s, e, j, k);
+    let to = left.to;
+    let mut i = left.from;
     while i < to {
-        let c = Cell { i, j, k };
-        let n = grid::number(r, c);
-        let v = mark_if(touch::within(s, c), labels[n]);
-        labels[n] = v;
+        let n = grid::number(r, Cell { i, j, k });
+        labels[n] = 8;
         i += 1;
     }
 }
 
+// The rows of a layer. What does not depend on i, or not on j, is cut here.
 fn mark_layer(labels: &mut [u8], s: Slabs, r: Axes, b: Block, k: usize)
     requires { ⌜ Sheet r (now labels) ⌝ }
-    requires { ⌜ SlabsFit s ⌝ }
+    requires { ⌜ SlabsFit s × AxesLeave s (layerOf b k) ⌝ }
     requires { ⌜ (b .i .to ≤ r .r0) × (b .j .to ≤ r .r1) × (k < r .r2) ⌝ }
     ensures { λ _. ⌜ Painted r (leftIn (layerOf b k) s) (now (labels .entry)) (now (labels .exit)) ⌝ }
 {
-    let e = b.i;
-    let to = b.j.to;
-    let mut j = b.j.from;
+    let e = intervals::layer_along_i(s, b.i, k);
+    let f = intervals::layer_along_j(s, b.j, k);
+    let to = f.to;
+    let mut j = f.from;
     while j < to {
         mark_row(labels, s, r, e, j, k);
         j += 1;
@@ -80,7 +74,7 @@ fn mark_layer(labels: &mut [u8], s: Slabs, r: Axes, b: Block, k: usize)
 
 fn mark_block(labels: &mut [u8], s: Slabs, r: Axes, b: Block)
     requires { ⌜ Sheet r (now labels) ⌝ }
-    requires { ⌜ SlabsFit s ⌝ }
+    requires { ⌜ SlabsFit s × AxesLeave s b ⌝ }
     requires { ⌜ (b .i .to ≤ r .r0) × (b .j .to ≤ r .r1) × (b .k .to ≤ r .r2) ⌝ }
     ensures { λ _. ⌜ Painted r (leftIn b s) (now (labels .entry)) (now (labels .exit)) ⌝ }
 {
@@ -92,8 +86,8 @@ fn mark_block(labels: &mut [u8], s: Slabs, r: Axes, b: Block)
     }
 }
 
-// The candidates of triangle t and its slabs, which leave of them the cells that it touches: what depends
-// on the triangle alone is computed here, once.
+// The candidates of triangle t that the axes leave, and its slabs, which leave of them the cells that it
+// touches: what depends on the triangle alone is computed here, once.
 pub fn sweep_of(ps: &[f32], ts: &[u32], r: Axes, at: Placement, t: usize) -> Sweep
     requires { ⌜ Sound r ⌝ }
     requires { ⌜ Ready (now ps) (now ts) r at ⌝ }
@@ -101,8 +95,9 @@ pub fn sweep_of(ps: &[f32], ts: &[u32], r: Axes, at: Placement, t: usize) -> Swe
     ensures { λ s. ⌜ Sweeps (now (ps .entry)) (now (ts .entry)) r at t s ⌝ }
 {
     let triangle = mesh::triangle_of(ps, ts, at, t);
-    let block = candidates::candidates(triangle, r);
+    let all = candidates::candidates(triangle, r);
     let slabs = slabs::slabs_of(triangle);
+    let block = intervals::clip(slabs.axes, all);
     Sweep { block, slabs }
 }
 

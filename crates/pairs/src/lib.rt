@@ -83,9 +83,10 @@ fn write_pairs(
     ensures { λ _. ⌜ now (list .exit) ≡ over (triangleList (now (ps .entry)) (now (ts .entry)) r at (now (labels .entry))) (now (list .entry)) ⌝ }
 {
     list::write_records(labels, r, records);
-    visits::visit_all(records, list, cells, ps, ts, r, at, false);
+    let guesses = visits::guesses(records, cells, r);
+    visits::visit_all(records, list, &guesses, cells, ps, ts, r, at, false);
     lay_ranges(records, cells);
-    visits::visit_all(records, list, cells, ps, ts, r, at, true);
+    visits::visit_all(records, list, &guesses, cells, ps, ts, r, at, true);
 }
 
 // Lists the cells 7 and 8 of a map, with the numbers of the triangles of each surface cell; or refuses

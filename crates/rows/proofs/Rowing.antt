@@ -10,15 +10,13 @@ use lib.ListN.{length, getD, set, length-set}
 use lib.Seq.{getD-set-same, getD-set-other}
 use borrow.Author.Tests.{eq-eqb, ne-eqb, lt-ltb, le-ltb, le-leb, lt-leb, eqb-true}
 use Rattle.grid.proofs.First.{le-or-lt}
-use Rattle.touch.specs.declared.Slabs.{Slabs}
-use Rattle.touch.specs.Slabs.{keptAll}
 use Rattle.order.specs.Order.{key}
 use Rattle.order.proofs.Orders.{by-bool}
 use Rattle.listed.specs.declared.Listed.{Listed}
 use Rattle.listed.specs.Listed.{recordAt, ranged, Put}
 use Rattle.listed.proofs.Records.{listed-path}
 use Rattle.lookup.specs.Lookup.{keyAt, Table, Behind, Ahead}
-use Rattle.rows.specs.Rows.{endAt, meets, keyed, gets, Given, Visited, Free, Room}
+use Rattle.rows.specs.Rows.{endAt, keyed, gets, Given, Visited, Free, Room}
 use Rattle.rows.proofs.Visiting.{visited-none, visited-same, visited-then, room-part, gets-none}
 
 -- ---- one record
@@ -89,40 +87,43 @@ visited-one placing n t x o q o' q' e l is b room f = record {
 
 -- ---- the records with keys from want up to, not including, past
 
-module _ (n t want past : ℕ) (s : Slabs) (o : List ℕ) (up : want ≤ past) (table : Table o n) where
+module _ (n t want past : ℕ) (o : List ℕ) (table : Table o n) where
   -- what each record gets in all, and while the walk stands at x
   abbrev all : ℕ → List ℕ
-  all p = gets t (keyed want past s) o p
+  all p = gets t (keyed want past) o p
 
   abbrev pub upTo : ℕ → ℕ → List ℕ
   upTo x p = cond (ltb p x) (all p) []
 
   early : (p : ℕ) → keyAt o p < want → all p ≡ []
-  early p h = gets-none t (keyed want past s) o p (ap (λ (b : Bool). (b && ltb (keyAt o p) past) && keptAll s (recordAt o p .cell)) (lt-leb want (keyAt o p) h))
+  early p h = gets-none t (keyed want past) o p (ap (λ (b : Bool). b && ltb (keyAt o p) past) (lt-leb want (keyAt o p) h))
 
   late : (p : ℕ) → past ≤ keyAt o p → all p ≡ []
-  late p h = gets-none t (keyed want past s) o p (ap (λ (b : Bool). (leb want (keyAt o p) && b) && keptAll s (recordAt o p .cell)) (le-ltb (keyAt o p) past h) ∙ none (leb want (keyAt o p)) (keptAll s (recordAt o p .cell)))
+  late p h = gets-none t (keyed want past) o p (ap (λ (b : Bool). leb want (keyAt o p) && b) (le-ltb (keyAt o p) past h) ∙ none (leb want (keyAt o p)))
     where
-      none : (a b : Bool) → ((a && false) && b) ≡ false
-      none true b = refl
-      none false b = refl
+      none : (a : Bool) → (a && false) ≡ false
+      none true = refl
+      none false = refl
 
-  -- between them only the slabs are asked
-  inner : (p : ℕ) → want ≤ keyAt o p → keyAt o p < past → all p ≡ cond (meets (keptAll s) (recordAt o p)) (t ∷ []) []
+  -- between them only the surface is asked for
+  inner : (p : ℕ) → want ≤ keyAt o p → keyAt o p < past → all p ≡ cond (eqb (recordAt o p .surface) 1) (t ∷ []) []
   inner p h l =
-      ap (λ (b : Bool). cond (eqb (recordAt o p .surface) 1 && ((b && ltb (keyAt o p) past) && keptAll s (recordAt o p .cell))) (t ∷ []) []) (le-leb want (keyAt o p) h)
-      ∙ ap (λ (b : Bool). cond (eqb (recordAt o p .surface) 1 && (b && keptAll s (recordAt o p .cell))) (t ∷ []) []) (lt-ltb (keyAt o p) past l)
+      ap (λ (b : Bool). cond (eqb (recordAt o p .surface) 1 && (b && ltb (keyAt o p) past)) (t ∷ []) []) (le-leb want (keyAt o p) h)
+      ∙ ap (λ (b : Bool). cond (eqb (recordAt o p .surface) 1 && b) (t ∷ []) []) (lt-ltb (keyAt o p) past l)
+      ∙ ap (λ (b : Bool). cond b (t ∷ []) []) (sure (eqb (recordAt o p .surface) 1))
+    where
+      sure : (a : Bool) → (a && true) ≡ a
+      sure true = refl
+      sure false = refl
 
   -- the walk stands at x
   pub record Rowing (placing : Bool) (q out list : List ℕ) (x : ℕ) : Type 0 where
     pub visits : Visited placing n (upTo x) o q out list
-    pub behind : Behind o n past x
     pub ahead : Ahead o n want x
 
   pub rowing-first : (placing : Bool) (q : List ℕ) (x : ℕ) → Behind o n want x → Ahead o n want x → Rowing placing q o q x
   rowing-first placing q x a b = record {
     visits = visited-none n placing (upTo x) o q nothing;
-    behind = record { most = a .most; under = λ p l. let k = a .under p l in omega arith };
     ahead = b;
   }
     where
@@ -161,11 +162,8 @@ module _ (n t want past : ℕ) (s : Slabs) (o : List ℕ) (up : want ≤ past) (
           here-under : keyAt o x < past
           here-under = let m = ap (λ (f : Listed). key (f .cell)) rowing-record in omega arith
 
-          gets-here : all x ≡ cond (meets (keptAll s) e) (t ∷ []) []
-          gets-here = inner x (w .ahead .over x (omega arith) l) here-under ∙ sym (ap (λ (f : Listed). cond (meets (keptAll s) f) (t ∷ []) []) rowing-record)
-
-          on-behind : Behind o n past (x + 1)
-          on-behind = record { most = omega arith; under = λ p g. ⊎-elim (λ z. let y : p ≡ x = omega arith in let k = ap (keyAt o) y in let m = here-under in omega arith) (λ z. w .behind .under p z) (le-or-lt x p) }
+          gets-here : all x ≡ cond (eqb (e .surface) 1) (t ∷ []) []
+          gets-here = inner x (w .ahead .over x (omega arith) l) here-under ∙ sym (ap (λ (f : Listed). cond (eqb (f .surface) 1) (t ∷ []) []) rowing-record)
 
           on-ahead : Ahead o n want (x + 1)
           on-ahead = record { most = omega arith; over = λ p g j. w .ahead .over p (omega arith) j }
@@ -193,8 +191,8 @@ module _ (n t want past : ℕ) (s : Slabs) (o : List ℕ) (up : want ≤ past) (
                   other : p < x → p ≡ x → ⊥
                   other g z = omega arith
 
-          pub rowing-no : meets (keptAll s) e ≡ false → Rowing placing q out list (x + 1)
-          rowing-no z = record { visits = visited-same n placing (upTo x) (upTo (x + 1)) o q out list same (w .visits); behind = on-behind; ahead = on-ahead }
+          pub rowing-no : eqb (e .surface) 1 ≡ false → Rowing placing q out list (x + 1)
+          rowing-no z = record { visits = visited-same n placing (upTo x) (upTo (x + 1)) o q out list same (w .visits); ahead = on-ahead }
             where
               none : all x ≡ []
               none = gets-here ∙ ap (λ (b : Bool). cond b (t ∷ []) []) z
@@ -206,7 +204,7 @@ module _ (n t want past : ℕ) (s : Slabs) (o : List ℕ) (up : want ≤ past) (
                   either true = refl
                   either false = refl
 
-          module _ (z : meets (keptAll s) e ≡ true) (len : ℕ) (room : Room placing n all o len) where
+          module _ (z : eqb (e .surface) 1 ≡ true) (len : ℕ) (room : Room placing n all o len) where
             one-here : all x ≡ t ∷ []
             one-here = gets-here ∙ ap (λ (b : Bool). cond b (t ∷ []) []) z
 
@@ -227,7 +225,6 @@ module _ (n t want past : ℕ) (s : Slabs) (o : List ℕ) (up : want ≤ past) (
                   visited-then n (upTo (x + 1)) (upTo x) (only t x) o (λ p j. grown p ∙ ap (λ (ys : List ℕ). upTo x p ++ cond (eqb p x) ys []) one-here) placing len
                   (room-part n all (upTo (x + 1)) (λ p. cond (ltb p (x + 1)) [] (all p)) o (λ p j. parted (ltb p (x + 1)) (all p)) placing len room)
                   q out list out' list' (w .visits) (visited-one placing n t x out list out' list' e l is b y f);
-              behind = on-behind;
               ahead = on-ahead;
             }
               where

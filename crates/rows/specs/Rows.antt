@@ -7,8 +7,6 @@ use Prim.Native.Nat.{ℕ, _+_, _*_, _≤_, _<_}
 use lib.Dec.{eqb, leb, ltb}
 use lib.ListN.{length, getD}
 use Rattle.grid.specs.declared.Cell.{Cell}
-use Rattle.touch.specs.declared.Slabs.{Slabs}
-use Rattle.touch.specs.Slabs.{keptAll}
 use Rattle.order.specs.Order.{key}
 use Rattle.listed.specs.declared.Listed.{Listed}
 use Rattle.listed.specs.Listed.{width, recordAt, ranged}
@@ -23,9 +21,9 @@ endAt o p = recordAt o p .end
 abbrev pub meets : (Cell → Bool) → Listed → Bool
 meets set e = eqb (e .surface) 1 && set (e .cell)
 
--- the cells with keys from one up to, not including, another that slabs leave
-abbrev pub keyed : ℕ → ℕ → Slabs → Cell → Bool
-keyed want past s c = (leb want (key c) && ltb (key c) past) && keptAll s c
+-- the cells with keys from one up to, not including, another
+abbrev pub keyed : ℕ → ℕ → Cell → Bool
+keyed want past c = leb want (key c) && ltb (key c) past
 
 -- ---- each record gets some triangle numbers
 

@@ -1,26 +1,13 @@
-// A triangle goes to the records of a row of cells: each one that it touches gets its number, counted or put
-// in its place.
+// A triangle goes to the records of a part of a row of cells: each surface cell's gets its number, counted or
+// put in its place.
 ghost use mathlib.Core.Bool.{true, cond};
 ghost use mathlib.Core.Path.{_≡_};
 ghost use Prim.Native.Nat.{_+_, _*_, _≤_, _<_};
 ghost use lib.ListN.{length, set};
-ghost use Rattle.touch.specs.Slabs.{SlabsFit, keptAll, CellFits};
 ghost use Rattle.listed.specs.Listed.{width, recordAt, ranged, Put};
 ghost use Rattle.lookup.specs.Lookup.{Table, Behind, Ahead};
-ghost use Rattle.rows.specs.Rows.{meets, keyed, gets, Visited, Room};
+ghost use Rattle.rows.specs.Rows.{keyed, gets, Visited, Room};
 use listed::Listed;
-use touch::Slabs;
-
-// Whether a record is of a surface cell that the slabs leave.
-fn meets_slabs(s: Slabs, e: Listed) -> bool
-    requires { ⌜ SlabsFit s × CellFits (e .cell) ⌝ }
-    ensures { λ b. ⌜ b ≡ meets (keptAll s) e ⌝ }
-{
-    if e.surface != 1 {
-        return false;
-    }
-    touch::within(s, e.cell)
-}
 
 // Record p, which is e, has one triangle more; where they are placed, t is put at its place.
 fn give(records: &mut [u32], list: &mut [u32], p: usize, e: Listed, t: u32, placing: bool)
@@ -36,37 +23,33 @@ fn give(records: &mut [u32], list: &mut [u32], p: usize, e: Listed, t: u32, plac
     }
 }
 
-// Triangle t goes to the records with keys from `want` up to, not including, `past` that the slabs leave.
-// The first with such a key, if there is one, is `from`. Answers the first record that was not visited.
+// Triangle t goes to the records of surface cells with keys from `want` up to, not including, `past`. The
+// first with such a key, if there is one, is `from`.
 pub fn visit_row(
     records: &mut [u32],
     list: &mut [u32],
     n: usize,
-    s: Slabs,
     t: u32,
     placing: bool,
     want: usize,
     past: usize,
     from: usize,
-) -> usize
-    requires { ⌜ Table (now records) n × SlabsFit s ⌝ }
+)
+    requires { ⌜ Table (now records) n ⌝ }
     requires { ⌜ Behind (now records) n want from × Ahead (now records) n want from ⌝ }
-    requires { ⌜ Room placing n (gets t (keyed want past s) (now records)) (now records) (length (now list)) ⌝ }
-    requires { ⌜ want ≤ past ⌝ }
-    ensures { λ _. ⌜ Visited placing n (gets t (keyed want past s) (now (records .entry))) (now (records .entry)) (now (list .entry)) (now (records .exit)) (now (list .exit)) ⌝ }
-    ensures { λ x. ⌜ Behind (now (records .entry)) n past x ⌝ }
+    requires { ⌜ Room placing n (gets t (keyed want past) (now records)) (now records) (length (now list)) ⌝ }
+    ensures { λ _. ⌜ Visited placing n (gets t (keyed want past) (now (records .entry))) (now (records .entry)) (now (list .entry)) (now (records .exit)) (now (list .exit)) ⌝ }
 {
     let mut x = from;
     while x < n {
         let e = listed::read(records, x);
         if past <= lookup::key_of(e.cell) {
-            return x;
+            return;
         }
         let p = x;
         x += 1;
-        if meets_slabs(s, e) {
+        if e.surface == 1 {
             give(records, list, p, e, t, placing);
         }
     }
-    x
 }

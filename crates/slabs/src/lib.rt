@@ -3,7 +3,7 @@ ghost use mathlib.Core.Path.{_≡_};
 ghost use Prim.Native.Nat.{_^_};
 ghost use lib.IntN.{pos, natAbs};
 ghost use Rattle.ints.specs.Bound.{In};
-ghost use Rattle.touch.specs.Touch.{dotZ, reach, edge, cross, normal, touching};
+ghost use Rattle.touch.specs.Touch.{dotZ, reach, edge, cross, axisX, axisY, axisZ, normal, touching};
 ghost use Rattle.touch.specs.Slabs.{slabOf, threeOf, productsOf, slabsOf, DirectionFits, EdgeFits, VertexFits, TriangleFits, CellFits};
 use grid::Cell;
 use touch::Slab;
@@ -73,19 +73,16 @@ fn cross_of(a: [i64; 3], b: [i64; 3]) -> [i64; 3]
     ]
 }
 
-fn three_along(x: [i64; 3], y: [i64; 3], z: [i64; 3], t: [[i64; 3]; 3]) -> Three
-    requires { ⌜ DirectionFits x × DirectionFits y × DirectionFits z ⌝ }
+// Of the axes. Here and for products each direction is written out where it is used, so that nothing is
+// computed with a coordinate that is 0.
+fn axes_of(t: [[i64; 3]; 3]) -> Three
     requires { ⌜ TriangleFits t ⌝ }
-    ensures { λ s. ⌜ s ≡ threeOf x y z t ⌝ }
+    ensures { λ s. ⌜ s ≡ threeOf axisX axisY axisZ t ⌝ }
 {
-    let sx = slab_along(x, t);
-    let sy = slab_along(y, t);
-    let sz = slab_along(z, t);
-    Three {
-        x: sx,
-        y: sy,
-        z: sz,
-    }
+    let x = slab_along([1, 0, 0], t);
+    let y = slab_along([0, 1, 0], t);
+    let z = slab_along([0, 0, 1], t);
+    Three { x, y, z }
 }
 
 // Of the products of the edge from a to b with the axes.
@@ -98,7 +95,14 @@ fn products(a: [i64; 3], b: [i64; 3], t: [[i64; 3]; 3]) -> Three
     let x = e[0];
     let y = e[1];
     let z = e[2];
-    three_along([0, z, -y], [-z, 0, x], [y, -x, 0], t)
+    let with_x = slab_along([0, z, -y], t);
+    let with_y = slab_along([-z, 0, x], t);
+    let with_z = slab_along([y, -x, 0], t);
+    Three {
+        x: with_x,
+        y: with_y,
+        z: with_z,
+    }
 }
 
 fn normal_slab(t: [[i64; 3]; 3]) -> Slab
@@ -115,7 +119,7 @@ pub fn slabs_of(t: [[i64; 3]; 3]) -> Slabs
     requires { ⌜ TriangleFits t ⌝ }
     ensures { λ s. ⌜ s ≡ slabsOf t ⌝ }
 {
-    let axes = three_along([1, 0, 0], [0, 1, 0], [0, 0, 1], t);
+    let axes = axes_of(t);
     let normal = normal_slab(t);
     let edge01 = products(t[0], t[1], t);
     let edge12 = products(t[1], t[2], t);

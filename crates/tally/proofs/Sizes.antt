@@ -21,7 +21,7 @@ use Rattle.touch.specs.Slabs.{keptAll}
 use Rattle.mesh.specs.declared.Ends.{Ends}
 use Rattle.mesh.specs.Ranges.{between, holds}
 use Rattle.marking.specs.Painted.{leftIn, one, rowOf}
-use Rattle.marking.proofs.Paint.{upto, Walk, walk-starts, walk-on, more-i, holds-here, holds-is}
+use Rattle.marking.proofs.Paint.{upto, Walk, walk-starts, walk-on, more-held, holds-here, holds-is}
 use Rattle.order.specs.Order.{inOrder, keep, chosen, joinAll}
 use Rattle.order.proofs.Orders.{by-bool, length-order}
 use Rattle.order.proofs.Sums.{kept-one}
@@ -189,46 +189,56 @@ module _ (s : Slabs) (e : Ends) (n : ℕ) where
           low false = refl
       cross3 false y a k h = refl
 
--- ---- one cell
+-- ---- a row, of which every cell counts
 
-pub size-cell : (r : Axes) (l : List ℕ) (s : Slabs) (i j k : ℕ) → InGrid r (record { i = i; j = j; k = k })
-    → sizeOf r (surfaceIn r l (leftIn (rowOf (one i) j k) s)) ≡ cond (eqb (at r l (record { i = i; j = j; k = k })) 8 && keptAll s (record { i = i; j = j; k = k })) 1 0
-size-cell r l s i j k g =
-    kept-one (surfaceIn r l (leftIn (rowOf (one i) j k) s)) r d g other
-    ∙ ap {B = ℕ} (λ (b : Bool). cond (eqb (at r l d) 8 && (b && keptAll s d)) 1 0) (holds-here i j k)
+pub apart-held : (e : Ends) (n j k : ℕ) (c : Cell) → (holds (rowOf (upto e n) j k) c && holds (rowOf (one n) j k) c) ≡ false
+unfolding holds
+apart-held e n j k c = cross (between (upto e n) (c .i)) (between (one n) (c .i)) (between (one j) (c .j)) (between (one k) (c .k)) (behind e n (c .i))
+  where
+    cross : (x y a b : Bool) → (x && y) ≡ false → ((x && a) && b) && ((y && a) && b) ≡ false
+    cross true true a b h = absurd (let v : _≡_ {A = ℕ} 0 1 = cc in omega arith)
+    cross true false a b h = low (a && b)
+      where
+        low : (t : Bool) → (t && false) ≡ false
+        low true = refl
+        low false = refl
+    cross false y a b h = refl
+
+-- one cell of it
+size-cell : (r : Axes) (l : List ℕ) (i j k : ℕ) → InGrid r (record { i = i; j = j; k = k })
+    → sizeOf r (surfaceIn r l (holds (rowOf (one i) j k))) ≡ cond (eqb (at r l (record { i = i; j = j; k = k })) 8) 1 0
+size-cell r l i j k g =
+    kept-one (surfaceIn r l (holds (rowOf (one i) j k))) r d g other
+    ∙ ap {B = ℕ} (λ (b : Bool). cond (eqb (at r l d) 8 && b) 1 0) (holds-here i j k)
+    ∙ ap {B = ℕ} (λ (b : Bool). cond b 1 0) (whole (eqb (at r l d) 8))
   where
     d : Cell
     d = record { i = i; j = j; k = k }
 
-    other : (c : Cell) → (c ≡ d → ⊥) → surfaceIn r l (leftIn (rowOf (one i) j k) s) c ≡ false
+    whole : (a : Bool) → (a && true) ≡ a
+    whole true = refl
+    whole false = refl
+
+    other : (c : Cell) → (c ≡ d → ⊥) → surfaceIn r l (holds (rowOf (one i) j k)) c ≡ false
     other c z = go (holds (rowOf (one i) j k) c) refl
       where
         none : (a : Bool) → (a && false) ≡ false
         none true = refl
         none false = refl
 
-        go : (t : Bool) → holds (rowOf (one i) j k) c ≡ t → surfaceIn r l (leftIn (rowOf (one i) j k) s) c ≡ false
+        go : (t : Bool) → holds (rowOf (one i) j k) c ≡ t → surfaceIn r l (holds (rowOf (one i) j k)) c ≡ false
         go true f = absurd (z (holds-is i j k c f))
-        go false f = ap (λ (t : Bool). eqb (at r l c) 8 && (t && keptAll s c)) f ∙ none (eqb (at r l c) 8)
+        go false f = ap (λ (t : Bool). eqb (at r l c) 8 && t) f ∙ none (eqb (at r l c) 8)
 
 -- a turn of a walk along a row: the cell where it stands is counted, or not
-module _ (r : Axes) (l : List ℕ) (s : Slabs) (e : Ends) (i j k n : ℕ) (g : InGrid r (record { i = i; j = j; k = k })) (h : i < e .to)
-    (w : Tallied r e i (surfaceIn r l (leftIn (rowOf (upto e i) j k) s)) n) where
-  turn : (b : Bool) → (eqb (at r l (record { i = i; j = j; k = k })) 8 && keptAll s (record { i = i; j = j; k = k })) ≡ b
-      → Tallied r e (i + 1) (surfaceIn r l (leftIn (rowOf (upto e (i + 1)) j k) s)) (n + cond b 1 0)
-  turn b f =
-      tallied-on r l e i (leftIn (rowOf (upto e i) j k) s) (leftIn (rowOf (one i) j k) s) (leftIn (rowOf (upto e (i + 1)) j k) s) n (cond b 1 0) w h
-      (sym (size-cell r l s i j k g ∙ ap {B = ℕ} (λ (t : Bool). cond t 1 0) f))
-      (more-i s e i (w .walk) (one j) (one k))
-      (apart-i s e i (one j) (one k))
-
-  pub turn-yes : at r l (record { i = i; j = j; k = k }) ≡ 8 → keptAll s (record { i = i; j = j; k = k }) ≡ true
-      → Tallied r e (i + 1) (surfaceIn r l (leftIn (rowOf (upto e (i + 1)) j k) s)) (n + 1)
-  turn-yes a b = turn true (rw (a, b))
-
-  pub turn-no : (eqb (at r l (record { i = i; j = j; k = k })) 8 && keptAll s (record { i = i; j = j; k = k })) ≡ false
-      → Tallied r e (i + 1) (surfaceIn r l (leftIn (rowOf (upto e (i + 1)) j k) s)) n
-  turn-no f = subst (Tallied r e (i + 1) (surfaceIn r l (leftIn (rowOf (upto e (i + 1)) j k) s))) (let z : n + 0 ≡ n = omega arith in z) (turn false f)
+pub turn : (r : Axes) (l : List ℕ) (e : Ends) (i j k n m : ℕ) → InGrid r (record { i = i; j = j; k = k }) → i < e .to
+    → Tallied r e i (surfaceIn r l (holds (rowOf (upto e i) j k))) n → m ≡ cond (eqb (at r l (record { i = i; j = j; k = k })) 8) 1 0
+    → Tallied r e (i + 1) (surfaceIn r l (holds (rowOf (upto e (i + 1)) j k))) (n + m)
+turn r l e i j k n m g h w f =
+    tallied-on r l e i (holds (rowOf (upto e i) j k)) (holds (rowOf (one i) j k)) (holds (rowOf (upto e (i + 1)) j k)) n m w h
+    (f ∙ sym (size-cell r l i j k g))
+    (more-held e j k i (w .walk))
+    (apart-held e i j k)
 
 -- ---- triangle after triangle
 

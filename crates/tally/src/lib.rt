@@ -1,12 +1,14 @@
 // How many pairs a list has: a surface cell and a triangle that has it as a candidate and touches it. They
 // are counted in 64 bits before anything is written, over the labels, in memory order.
+ghost use mathlib.Core.Bool.{cond};
 ghost use mathlib.Core.Path.{_≡_};
 ghost use Prim.Native.Nat.{_≤_, _<_};
+ghost use lib.Dec.{eqb};
 ghost use lib.ListN.{length};
 ghost use Rattle.grid.specs.Grid.{Sheet};
 ghost use Rattle.touch.specs.Slabs.{SlabsFit};
 ghost use Rattle.mesh.specs.Mesh.{triangles};
-ghost use Rattle.marking.specs.Painted.{leftIn, rowOf, layerOf, Ready};
+ghost use Rattle.marking.specs.Painted.{leftIn, rowOf, layerOf, AxesLeave, RowRest, Ready};
 ghost use Rattle.tally.specs.Pairs.{joins, pairCount, surfaceIn, sizeOf};
 use grid::Axes;
 use grid::Cell;
@@ -15,38 +17,42 @@ use mesh::Block;
 use mesh::Ends;
 use touch::Slabs;
 
-// The surface cells of a row that thirteen slabs leave.
+// 1 for a surface cell, 0 for another.
+fn surface_count(label: u8) -> usize
+    ensures { λ n. ⌜ n ≡ cond (eqb label 8) 1 0 ⌝ }
+{
+    if label == 8 { 1 } else { 0 }
+}
+
+// The surface cells of a row that thirteen slabs leave. What its layer has cut is not tested again.
 fn count_row(labels: &[u8], s: Slabs, r: Axes, e: Ends, j: usize, k: usize) -> usize
     requires { ⌜ Sheet r (now labels) ⌝ }
-    requires { ⌜ SlabsFit s ⌝ }
+    requires { ⌜ SlabsFit s × RowRest s e j k ⌝ }
     requires { ⌜ (e .to ≤ r .r0) × (j < r .r1) × (k < r .r2) ⌝ }
     ensures { λ n. ⌜ n ≡ sizeOf r (surfaceIn r (now (labels .entry)) (leftIn (rowOf e j k) s)) ⌝ }
 {
-    let to = e.to;
+    let left = intervals::rest_along_i(s, e, j, k);
+    let to = left.to;
     let mut n = 0usize;
-    let mut i = e.from;
+    let mut i = left.from;
     while i < to {
-        let c = Cell { i, j, k };
+        n += surface_count(labels[grid::number(r, Cell { i, j, k })]);
         i += 1;
-        if labels[grid::number(r, c)] == 8 {
-            if touch::within(s, c) {
-                n += 1;
-            }
-        }
     }
     n
 }
 
 fn count_layer(labels: &[u8], s: Slabs, r: Axes, b: Block, k: usize) -> usize
     requires { ⌜ Sheet r (now labels) ⌝ }
-    requires { ⌜ SlabsFit s ⌝ }
+    requires { ⌜ SlabsFit s × AxesLeave s (layerOf b k) ⌝ }
     requires { ⌜ (b .i .to ≤ r .r0) × (b .j .to ≤ r .r1) × (k < r .r2) ⌝ }
     ensures { λ n. ⌜ n ≡ sizeOf r (surfaceIn r (now (labels .entry)) (leftIn (layerOf b k) s)) ⌝ }
 {
-    let e = b.i;
-    let to = b.j.to;
+    let e = intervals::layer_along_i(s, b.i, k);
+    let f = intervals::layer_along_j(s, b.j, k);
+    let to = f.to;
     let mut n = 0usize;
-    let mut j = b.j.from;
+    let mut j = f.from;
     while j < to {
         n += count_row(labels, s, r, e, j, k);
         j += 1;
@@ -56,7 +62,7 @@ fn count_layer(labels: &[u8], s: Slabs, r: Axes, b: Block, k: usize) -> usize
 
 fn count_block(labels: &[u8], s: Slabs, r: Axes, b: Block) -> usize
     requires { ⌜ Sheet r (now labels) ⌝ }
-    requires { ⌜ SlabsFit s ⌝ }
+    requires { ⌜ SlabsFit s × AxesLeave s b ⌝ }
     requires { ⌜ (b .i .to ≤ r .r0) × (b .j .to ≤ r .r1) × (b .k .to ≤ r .r2) ⌝ }
     ensures { λ n. ⌜ n ≡ sizeOf r (surfaceIn r (now (labels .entry)) (leftIn b s)) ⌝ }
 {

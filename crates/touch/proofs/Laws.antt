@@ -22,7 +22,7 @@ use Rattle.touch.specs.declared.Slab.{Slab}
 use Rattle.touch.specs.declared.Slabs.{Slabs}
 use Rattle.touch.specs.declared.Three.{Three}
 use Rattle.touch.specs.Touch.{along, vertex, centre, dotZ, reach, edge, cross, axisX, axisY, axisZ, axes, edgeOf, normal, withAxes, allAbove, allBelow, apart, someApart, touching}
-use Rattle.touch.specs.Slabs.{slabOf, threeOf, productsOf, slabsOf, kept, keptThree, keptAll, keptFlat, keptRow, VertexFits, TriangleFits, EdgeFits, DirectionFits, SlabFits, ThreeFit, Axial, Flat, SlabsFit, CoordinatesFit, CellFits}
+use Rattle.touch.specs.Slabs.{slabOf, threeOf, productsOf, slabsOf, kept, keptThree, keptAll, VertexFits, TriangleFits, EdgeFits, DirectionFits, SlabFits, ThreeFit, Axial, Flat, SlabsFit, CoordinatesFit, CellFits}
 
 -- ---- ranges
 
@@ -274,34 +274,3 @@ slabs-fit t h =
     of-edge e f =
         let d = products-dir e f in
         record { x-ok = slab-fits (cross e axisX) t (d .0) h; y-ok = slab-fits (cross e axisY) t (d .1) h; z-ok = slab-fits (cross e axisZ) t (d .2) h }
-
--- ---- a cell that is left lies in a row that the directions without k leave
-
--- without k, the cell's place along it does not matter
-flat-kept : (s : Slab) (i j k : ℤ) → s .z ≡ pos 0 → kept s i j k ≡ true → keptFlat s i j ≡ true
-flat-kept s i j k e h =
-    let p = sym (no-z (s .x) (s .y) (s .z) i j k e) ∙ no-z (s .x) (s .y) (s .z) i j (pos 0) e in
-    sym (λ t. leZ (s .low) (p t) && leZ (p t) (s .high)) ∙ h
-
-pub kept-row : (s : Slabs) (c : Cell) → SlabsFit s → keptAll s c ≡ true → keptRow s (c .i) (c .j) ≡ true
-unfolding keptAll
-kept-row s c f h =
-    let i = pos (c .i) in
-    let j = pos (c .j) in
-    let k = pos (c .k) in
-    let axes = keptThree (s .axes) i j k in
-    let normal = kept (s .normal) i j k in
-    let e = keptThree (s .edge01) i j k in
-    let g = keptThree (s .edge12) i j k in
-    let l = keptThree (s .edge20) i j k in
-    let h1 = both-true (axes && normal && e && g) l h .0 in
-    let h2 = both-true (axes && normal && e) g h1 .0 in
-    let h3 = both-true (axes && normal) e h2 .0 in
-    let all = both-true axes normal h3 .0 in
-    let xy = both-true (kept (s .axes .x) i j k && kept (s .axes .y) i j k) (kept (s .axes .z) i j k) all .0 in
-    let x = flat-kept (s .axes .x) i j k (f .axes-axial .x-z) (both-true (kept (s .axes .x) i j k) (kept (s .axes .y) i j k) xy .0) in
-    let y = flat-kept (s .axes .y) i j k (f .axes-axial .y-z) (both-true (kept (s .axes .x) i j k) (kept (s .axes .y) i j k) xy .1) in
-    let a = flat-kept (s .edge01 .z) i j k (f .edge01-flat .z-z) (both-true (kept (s .edge01 .x) i j k && kept (s .edge01 .y) i j k) (kept (s .edge01 .z) i j k) (both-true (axes && normal) e h2 .1) .1) in
-    let b = flat-kept (s .edge12 .z) i j k (f .edge12-flat .z-z) (both-true (kept (s .edge12 .x) i j k && kept (s .edge12 .y) i j k) (kept (s .edge12 .z) i j k) (both-true (axes && normal && e) g h1 .1) .1) in
-    let d = flat-kept (s .edge20 .z) i j k (f .edge20-flat .z-z) (both-true (kept (s .edge20 .x) i j k && kept (s .edge20 .y) i j k) (kept (s .edge20 .z) i j k) (both-true (axes && normal && e && g) l h .1) .1) in
-    rw (x, y, a, b, d)

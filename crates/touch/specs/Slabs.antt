@@ -56,16 +56,6 @@ keptAt s i j k =
 unfoldable pub keptAll : Slabs → Cell → Bool
 keptAll s c = keptAt s (pos (c .i)) (pos (c .j)) (pos (c .k))
 
--- what the directions without k say of the row of cells (i, j) along k: a cell that is left lies in a row that is kept (`kept-row` in proofs/Laws.antt)
-abbrev pub keptFlat : Slab → ℤ → ℤ → Bool
-keptFlat s i j = kept s i j (pos 0)
-
-abbrev pub keptRowAt : Slabs → ℤ → ℤ → Bool
-keptRowAt s i j = keptFlat (s .axes .x) i j && keptFlat (s .axes .y) i j && keptFlat (s .edge01 .z) i j && keptFlat (s .edge12 .z) i j && keptFlat (s .edge20 .z) i j
-
-abbrev pub keptRow : Slabs → ℕ → ℕ → Bool
-keptRow s i j = keptRowAt s (pos i) (pos j)
-
 -- ---- the ranges, which hold for up to 1,024 parts of a side
 
 -- the coordinates of a vertex that falls on one of 256 cells a side, and of a triangle's three

@@ -4,7 +4,7 @@
 ghost use mathlib.Core.Path.{_≡_};
 ghost use Prim.Native.Nat.{_<_};
 ghost use Rattle.ints.specs.Order.{lesser, greater};
-ghost use Rattle.touch.specs.Slabs.{kept, keptThree, keptAll, keptRow, SlabFits, ThreeFit, Axial, Flat, SlabsFit, CellFits, CoordinatesFit};
+ghost use Rattle.touch.specs.Slabs.{kept, keptThree, keptAll, SlabFits, ThreeFit, Axial, Flat, SlabsFit, CellFits, CoordinatesFit};
 use grid::Cell;
 
 // The cells that a direction does not separate: side * (direction . cell) is from low to high. x, y and z are
@@ -102,20 +102,4 @@ pub fn within(s: Slabs, c: Cell) -> bool
     let edge12 = keeps_products(s.edge12, i, j, k);
     let edge20 = keeps_products(s.edge20, i, j, k);
     axes & normal & edge01 & edge12 & edge20
-}
-
-// Whether the row of cells (i, j), along k, can have one that is left: what the directions without k say.
-pub fn row_within(s: Slabs, i: usize, j: usize) -> bool
-    requires { ⌜ SlabsFit s ⌝ }
-    requires { ⌜ (i < 256) × (j < 256) ⌝ }
-    ensures { λ b. ⌜ b ≡ keptRow s i j ⌝ }
-{
-    let x = i as i64;
-    let y = j as i64;
-    let of_x = keeps(s.axes.x, x, y, 0);
-    let of_y = keeps(s.axes.y, x, y, 0);
-    let edge01 = keeps(s.edge01.z, x, y, 0);
-    let edge12 = keeps(s.edge12.z, x, y, 0);
-    let edge20 = keeps(s.edge20.z, x, y, 0);
-    of_x & of_y & edge01 & edge12 & edge20
 }

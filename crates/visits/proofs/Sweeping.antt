@@ -1,5 +1,5 @@
 -- A triangle goes to the records of a block, part after part: the room for the next part, and what has been given with it; a row by its keys; and triangle after triangle. Assumes nothing.
-use mathlib.Core.Bool.{Bool, true≢false, true, false, not, cond, _&&_, _||_}
+use mathlib.Core.Bool.{Bool, true, false, not, cond, _&&_, _||_}
 use mathlib.Core.Path.{_≡_, refl, sym, ap, subst, _∙_}
 use mathlib.Core.Logic.{⊎-elim}
 use mathlib.Core.List.{List, [], _∷_, _++_, append-nil, append-assoc}
@@ -9,29 +9,29 @@ use native.Mathlib.Omega.{arith}
 use lib.Dec.{leb, ltb}
 use lib.ListN.{length}
 use lib.Ieee.{Float}
-use borrow.Author.Tests.{lt-ltb, le-leb, leb-true, ltb-true}
+use borrow.Author.Tests.{lt-ltb, le-ltb, le-leb, lt-leb, leb-true, ltb-true}
 use Rattle.grid.specs.declared.Axes.{Axes}
 use Rattle.grid.specs.declared.Cell.{Cell}
 use Rattle.grid.specs.declared.Placement.{Placement}
 use Rattle.grid.proofs.First.{le-or-lt, both-true}
 use Rattle.touch.specs.declared.Slabs.{Slabs}
-use Rattle.touch.specs.Slabs.{keptAll, keptRow, CellFits, SlabsFit}
-use Rattle.touch.proofs.Laws.{kept-row}
+use Rattle.touch.specs.Slabs.{keptAll, CellFits, SlabsFit}
 use Rattle.mesh.specs.declared.Block.{Block}
 use Rattle.mesh.specs.declared.Ends.{Ends}
 use Rattle.mesh.specs.Mesh.{triangles}
 use Rattle.mesh.specs.Ranges.{between, holds}
+use Rattle.intervals.specs.Intervals.{Cut, acrossY, acrossZ, restAlongK}
+use Rattle.intervals.proofs.Laws.{slice-all, kept-slice}
 use Rattle.marking.specs.Marked.{hits}
-use Rattle.marking.specs.Painted.{leftIn, one}
+use Rattle.marking.specs.Painted.{leftIn, one, AxesLeave}
 use Rattle.marking.proofs.Paint.{upto, Walk, walk-starts, walk-on, none-along-i, none-along-j, more-i, more-j, done-i, done-j}
-use Rattle.tally.proofs.Sizes.{apart-i, apart-j}
+use Rattle.tally.proofs.Sizes.{apart-j}
 use Rattle.order.specs.Order.{key, chosen}
 use Rattle.listed.specs.Listed.{recordAt}
-use Rattle.lookup.specs.Lookup.{Table, Behind}
+use Rattle.lookup.specs.Lookup.{Table}
 use Rattle.rows.specs.Rows.{meets, keyed, gets, Visited, Free, Room}
-use Rattle.visits.specs.Visits.{slabAt, allOf}
-use Rattle.lookup.proofs.Tables.{behind-more, behind-none}
-use Rattle.rows.proofs.Visiting.{visited-none, visited-same, visited-then, room-part, room-rest, bump-table, bump-behind, bump-back, bump-gets, gets-either, gets-none, gets-same}
+use Rattle.visits.specs.Visits.{lineAt, slabAt, LineRest, allOf}
+use Rattle.rows.proofs.Visiting.{visited-none, visited-same, visited-then, room-part, room-rest, bump-table, bump-gets, gets-either, gets-none, gets-same}
 
 -- two tests that imply each other are one
 same-test : (x y : Bool) → (x ≡ true → y ≡ true) → (y ≡ true → x ≡ true) → x ≡ y
@@ -117,12 +117,12 @@ module _ (s : Slabs) (e : Ends) (m : ℕ) (h : m ≤ e .to) where
       go true y a b k f g = rw (f refl) g
       go false y a b k f g = absurd (let v : _≡_ {A = ℕ} 0 1 = cc in omega arith)
 
--- ---- the cells of a row, by their keys
+-- ---- the cells of a part of a row, by their keys
 
-pub keyed-row : (s : Slabs) (i j : ℕ) (e : Ends) (c : Cell) → i < 256 → j < 256 → e .from ≤ 256 → e .to ≤ 256 → CellFits c
-    → keyed (i * 65536 + j * 256 + e .from) (i * 65536 + j * 256 + e .to) s c ≡ leftIn (record { i = one i; j = one j; k = e }) s c
+keyed-row : (i j : ℕ) (e : Ends) (c : Cell) → i < 256 → j < 256 → e .from < e .to → e .to ≤ 256 → CellFits c
+    → keyed (i * 65536 + j * 256 + e .from) (i * 65536 + j * 256 + e .to) c ≡ holds (lineAt i j e) c
 unfolding holds
-keyed-row s i j e c hi hj hf ht n = ap (λ (b : Bool). b && keptAll s c) (same-test (leb low (key c) && ltb (key c) high) ((between (one i) (c .i) && between (one j) (c .j)) && between e (c .k)) there back)
+keyed-row i j e c hi hj hf ht n = same-test (leb low (key c) && ltb (key c) high) ((between (one i) (c .i) && between (one j) (c .j)) && between e (c .k)) there back
   where
     low : ℕ
     low = i * 65536 + j * 256 + e .from
@@ -159,38 +159,157 @@ keyed-row s i j e c hi hj hf ht n = ap (λ (b : Bool). b && keptAll s c) (same-t
         let k2 = ltb-true (c .k) (e .to) (both-true (leb (e .from) (c .k)) (ltb (c .k) (e .to)) bk .1) in
         rw (le-leb low (key c) (omega arith), lt-ltb (key c) high (omega arith))
 
--- so of a table's records they are the same
-pub row-gets : (t : ℕ) (s : Slabs) (i j : ℕ) (e : Ends) (o : List ℕ) (n : ℕ) → i < 256 → j < 256 → e .from ≤ 256 → e .to ≤ 256 → Table o n → (p : ℕ) → p < n
-    → gets t (keyed (i * 65536 + j * 256 + e .from) (i * 65536 + j * 256 + e .to) s) o p ≡ gets t (leftIn (record { i = one i; j = one j; k = e }) s) o p
-row-gets t s i j e o n hi hj hf ht w p l = gets-same t (keyed (i * 65536 + j * 256 + e .from) (i * 65536 + j * 256 + e .to) s) (leftIn (record { i = one i; j = one j; k = e }) s) o p (keyed-row s i j e (recordAt o p .cell) hi hj hf ht (w .near p l))
+-- so of a table's records they are the same, and there is the same room
+module _ (placing : Bool) (n t i j : ℕ) (e : Ends) (o : List ℕ) (table : Table o n) (hi : i < 256) (hj : j < 256) (hf : e .from < e .to) (hk : e .to ≤ 256)
+    (low high : ℕ) (el : low ≡ i * 65536 + j * 256 + e .from) (eh : high ≡ i * 65536 + j * 256 + e .to) where
+  part-same : (p : ℕ) → p < n → gets t (keyed low high) o p ≡ gets t (holds (lineAt i j e)) o p
+  part-same p l =
+      (λ m. gets t (keyed (el m) (eh m)) o p)
+      ∙ gets-same t (keyed (i * 65536 + j * 256 + e .from) (i * 65536 + j * 256 + e .to)) (holds (lineAt i j e)) o p (keyed-row i j e (recordAt o p .cell) hi hj hf hk (table .near p l))
+
+  pub keys-room : (len : ℕ) → Room placing n (gets t (holds (lineAt i j e)) o) o len → Room placing n (gets t (keyed low high) o) o len
+  keys-room len w = room-same placing n (gets t (holds (lineAt i j e)) o) (gets t (keyed low high) o) o len (λ p l. sym (part-same p l)) w
+
+  pub keys-done : (q out list : List ℕ) → Visited placing n (gets t (keyed low high) o) o q out list → Visited placing n (gets t (holds (lineAt i j e)) o) o q out list
+  keys-done q out list v = visited-same n placing (gets t (keyed low high) o) (gets t (holds (lineAt i j e)) o) o q out list part-same v
+
+pub keys-none : (placing : Bool) (n t i j : ℕ) (e : Ends) (o q : List ℕ) → e .to ≤ e .from → Visited placing n (gets t (holds (lineAt i j e)) o) o q o q
+unfolding holds
+keys-none placing n t i j e o q h = visited-none n placing (gets t (holds (lineAt i j e)) o) o q (λ p l. gets-none t (holds (lineAt i j e)) o p (never (between (one i) (recordAt o p .cell .i) && between (one j) (recordAt o p .cell .j)) (between e (recordAt o p .cell .k)) (outside (recordAt o p .cell .k))))
+  where
+    never : (a b : Bool) → b ≡ false → (a && b) ≡ false
+    never true b z = z
+    never false b z = refl
+
+    outside : (x : ℕ) → between e x ≡ false
+    outside x = ⊎-elim (λ l. rw (le-leb (e .from) x l) (le-ltb x (e .to) (omega arith))) (λ l. rw (lt-leb (e .from) x l)) (le-or-lt (e .from) x)
+
+-- ---- the part of a row that the slabs leave
+
+one-is : (n x : ℕ) → between (one n) x ≡ true → x ≡ n
+one-is n x h =
+    let p = leb-true n x (both-true (leb n x) (ltb x (n + 1)) h .0) in
+    let q = ltb-true x (n + 1) (both-true (leb n x) (ltb x (n + 1)) h .1) in
+    omega arith
+
+one-here : (n : ℕ) → between (one n) n ≡ true
+one-here n = rw (le-leb n n (omega arith), lt-ltb n (n + 1) (omega arith))
+
+module _ (placing : Bool) (n t i j : ℕ) (s : Slabs) (e a : Ends) (u : LineRest s e i j) (w : Cut e (restAlongK s i j) a) (o : List ℕ) where
+  held-line : (c : Cell) → holds (lineAt i j a) c ≡ leftIn (lineAt i j e) s c
+  unfolding holds
+  held-line c = go (between (one i) (c .i)) (between (one j) (c .j)) refl refl
+    where
+      whole : (t : Bool) → between e (c .k) ≡ t → (t && restAlongK s i j (c .k)) ≡ (t && keptAll s (record { i = i; j = j; k = c .k }))
+      whole true f = sym (u .rest (c .k) f)
+      whole false f = refl
+
+      go : (x y : Bool) → between (one i) (c .i) ≡ x → between (one j) (c .j) ≡ y
+          → ((between (one i) (c .i) && between (one j) (c .j)) && between a (c .k)) ≡ (((between (one i) (c .i) && between (one j) (c .j)) && between e (c .k)) && keptAll s c)
+      go true true ex ey =
+          let hi = one-is i (c .i) ex in
+          let hj = one-is j (c .j) ey in
+          rw (ex, ey) (w .places (c .k) ∙ whole (between e (c .k)) refl ∙ (λ m. between e (c .k) && keptAll s (record { i = sym hi m; j = sym hj m; k = c .k })))
+      go true false ex ey = rw (ex, ey) refl
+      go false y ex ey = rw ex refl
+
+  line-same : (p : ℕ) → p < n → gets t (holds (lineAt i j a)) o p ≡ gets t (leftIn (lineAt i j e) s) o p
+  line-same p l = gets-same t (holds (lineAt i j a)) (leftIn (lineAt i j e) s) o p (held-line (recordAt o p .cell))
+
+  pub line-room : (len : ℕ) → Room placing n (gets t (leftIn (lineAt i j e) s) o) o len → Room placing n (gets t (holds (lineAt i j a)) o) o len
+  line-room len v = room-same placing n (gets t (leftIn (lineAt i j e) s) o) (gets t (holds (lineAt i j a)) o) o len (λ p l. sym (line-same p l)) v
+
+  pub line-done : (q out list : List ℕ) → Visited placing n (gets t (holds (lineAt i j a)) o) o q out list → Visited placing n (gets t (leftIn (lineAt i j e) s) o) o q out list
+  line-done q out list v = visited-same n placing (gets t (holds (lineAt i j a)) o) (gets t (leftIn (lineAt i j e) s) o) o q out list line-same v
+
+-- ---- a slab of cells of a block that the axes leave
+
+pub slab-axes : (s : Slabs) (b : Block) (i : ℕ) → AxesLeave s b → b .i .from ≤ i → i < b .i .to → AxesLeave s (slabAt b i)
+unfolding holds
+slab-axes s b i u h l =
+    record {
+      leave = λ c g.
+          let x = between (one i) (c .i) in
+          let y = between (b .j) (c .j) in
+          let z = between (b .k) (c .k) in
+          let xy = both-true x y (both-true (x && y) z g .0) in
+          let f : between (b .i) (c .i) ≡ true = ap (between (b .i)) (one-is i (c .i) (xy .0)) ∙ rw (le-leb (b .i .from) i h, lt-ltb i (b .i .to) l) in
+          u .leave c (rw (f, xy .1, both-true (x && y) z g .1));
+    }
+
+-- cut along j and along k: what is left to test in a row, and that no cell is lost
+module _ (s : Slabs) (fit : SlabsFit s) (b : Block) (i : ℕ) (f e : Ends) (v : Cut (b .j) (acrossZ s i) f) (w : Cut (b .k) (λ k. acrossY s k i) e) where
+  pub line-rest : AxesLeave s (slabAt b i) → (j : ℕ) → f .from ≤ j → j < f .to → LineRest s e i j
+  unfolding holds
+  line-rest u j h l =
+      record {
+        rest = λ x g.
+            let a = both-true (between (b .k) x) (acrossY s x i) (sym (w .places x) ∙ g) in
+            let here : between f j ≡ true = rw (le-leb (f .from) j h, lt-ltb j (f .to) l) in
+            let d = both-true (between (b .j) j) (acrossZ s i j) (sym (v .places j) ∙ here) in
+            let axes = u .leave (record { i = i; j = j; k = x }) (rw (one-here i, d .0, a .0)) in
+            slice-all s fit i j x ∙ rw (axes, d .1, a .1);
+      }
+
+  slice-left : (c : Cell) → leftIn (record { i = one i; j = f; k = e }) s c ≡ leftIn (slabAt b i) s c
+  unfolding holds
+  slice-left c = (λ t. between (one i) (c .i) && v .places (c .j) t && w .places (c .k) t && keptAll s c) ∙ go (between (one i) (c .i)) (keptAll s c) refl refl
+    where
+      x : Bool
+      x = between (b .j) (c .j)
+
+      y : Bool
+      y = between (b .k) (c .k)
+
+      lost : (a d : Bool) → ((true && a) && d && false) ≡ false
+      lost true true = refl
+      lost true false = refl
+      lost false d = refl
+
+      go : (p q : Bool) → between (one i) (c .i) ≡ p → keptAll s c ≡ q → (p && (x && acrossZ s i (c .j)) && (y && acrossY s (c .k) i) && q) ≡ (p && x && y && q)
+      go true true g h =
+          let d = one-is i (c .i) g in
+          let all = (λ t. keptAll s (record { i = sym d t; j = c .j; k = c .k })) ∙ h in
+          let k = kept-slice s fit i (c .j) (c .k) all in
+          (λ t. true && (x && k .0 t) && (y && k .1 t) && true) ∙ plain x y
+        where
+          plain : (a d : Bool) → (true && (a && true) && (d && true) && true) ≡ (true && a && d && true)
+          plain true true = refl
+          plain true false = refl
+          plain false d = refl
+      go true false g h = lost (x && acrossZ s i (c .j)) (y && acrossY s (c .k) i) ∙ sym (lost x y)
+      go false q g h = refl
+
+  -- so there is the same room, and the same is given
+  module _ (placing : Bool) (n t : ℕ) (o : List ℕ) where
+    slice-same : (p : ℕ) → p < n → gets t (leftIn (record { i = one i; j = f; k = e }) s) o p ≡ gets t (leftIn (slabAt b i) s) o p
+    slice-same p l = gets-same t (leftIn (record { i = one i; j = f; k = e }) s) (leftIn (slabAt b i) s) o p (slice-left (recordAt o p .cell))
+
+    pub slice-room : (len : ℕ) → Room placing n (gets t (leftIn (slabAt b i) s) o) o len → Room placing n (gets t (leftIn (record { i = one i; j = f; k = e }) s) o) o len
+    slice-room len x = room-same placing n (gets t (leftIn (slabAt b i) s) o) (gets t (leftIn (record { i = one i; j = f; k = e }) s) o) o len (λ p l. sym (slice-same p l)) x
+
+    pub slice-done : (q out list : List ℕ) → Visited placing n (gets t (leftIn (record { i = one i; j = f; k = e }) s) o) o q out list → Visited placing n (gets t (leftIn (slabAt b i) s) o) o q out list
+    slice-done q out list x = visited-same n placing (gets t (leftIn (record { i = one i; j = f; k = e }) s) o) (gets t (leftIn (slabAt b i) s) o) o q out list slice-same x
 
 -- ---- row after row of slab i
 
 abbrev rowsTo : ℕ → Slabs → Ends → Ends → ℕ → Cell → Bool
 rowsTo i s j k y = leftIn (record { i = one i; j = upto j y; k = k }) s
 
-abbrev rowIn : ℕ → Slabs → Ends → ℕ → Cell → Bool
-rowIn i s k y = leftIn (record { i = one i; j = one y; k = k }) s
-
 module _ (placing : Bool) (n t i : ℕ) (s : Slabs) (j k : Ends) (o q : List ℕ) where
-  -- the rows before y are done; the records before x lie before row y, and before the next slab
-  pub record Slabbing (out list : List ℕ) (x y : ℕ) : Type 0 where
+  -- the rows before y are done
+  pub record Slabbing (out list : List ℕ) (y : ℕ) : Type 0 where
     pub walk : Walk j y
     pub visits : Visited placing n (gets t (rowsTo i s j k y) o) o q out list
-    pub before-row : Behind o n (i * 65536 + y * 256 + k .from) x
-    pub before-slab : Behind o n ((i + 1) * 65536) x
 
-module _ (placing : Bool) (n t i : ℕ) (s : Slabs) (j k : Ends) (o q : List ℕ) (len : ℕ) (table : Table o n) (hi : i < 256) (hr : j .from < 256) (hj : j .to ≤ 256) (hf : k .from ≤ k .to) (hk : k .to ≤ 256)
-    (room : Room placing n (gets t (leftIn (record { i = one i; j = j; k = k }) s) o) o len) where
-  pub slabbing-first : (x : ℕ) → Behind o n (i * 65536 + j .from * 256 + k .from) x → Slabbing placing n t i s j k o q o q x (j .from)
-  slabbing-first x b = record {
+module _ (placing : Bool) (n t i : ℕ) (s : Slabs) (j k : Ends) (o q : List ℕ) (len : ℕ) (table : Table o n) (room : Room placing n (gets t (leftIn (record { i = one i; j = j; k = k }) s) o) o len) where
+  pub slabbing-first : Slabbing placing n t i s j k o q o q (j .from)
+  slabbing-first = record {
     walk = walk-starts j;
     visits = visited-none n placing (gets t (rowsTo i s j k (j .from)) o) o q (λ p l. gets-none t (rowsTo i s j k (j .from)) o p (none-along-j s j (one i) k (recordAt o p .cell)));
-    before-row = b;
-    before-slab = behind-more o n (i * 65536 + j .from * 256 + k .from) ((i + 1) * 65536) x (omega arith) b;
   }
 
-  module _ (out list : List ℕ) (x y : ℕ) (w : Slabbing placing n t i s j k o q out list x y) where
+  module _ (out list : List ℕ) (y : ℕ) (w : Slabbing placing n t i s j k o q out list y) where
     pub slabbing-done : j .to ≤ y → Visited placing n (gets t (leftIn (record { i = one i; j = j; k = k }) s) o) o q out list
     slabbing-done h = visited-same n placing (gets t (rowsTo i s j k y) o) (gets t (leftIn (record { i = one i; j = j; k = k }) s) o) o q out list
         (λ p l. gets-same t (rowsTo i s j k y) (leftIn (record { i = one i; j = j; k = k }) s) o p (done-j s j y (w .walk) h (one i) k (recordAt o p .cell))) (w .visits)
@@ -198,101 +317,59 @@ module _ (placing : Bool) (n t i : ℕ) (s : Slabs) (j k : Ends) (o q : List ℕ
     pub slab-table : Table out n
     slab-table = bump-table n (gets t (rowsTo i s j k y) o) o out (w .visits .bumped) table
 
-    module _ (h : y < j .to) (low high : ℕ) (el : low ≡ i * 65536 + y * 256 + k .from) (eh : high ≡ i * 65536 + y * 256 + k .to) where
-      pub row-behind : Behind out n low x
-      row-behind = bump-behind n (gets t (rowsTo i s j k y) o) o out (w .visits .bumped) low x (behind-more o n (i * 65536 + y * 256 + k .from) low x (omega arith) (w .before-row))
-
-      row-same : (p : ℕ) → p < n → gets t (keyed low high s) out p ≡ gets t (rowIn i s k y) out p
-      row-same p l =
-          (λ m. gets t (keyed (el m) (eh m) s) out p)
-          ∙ row-gets t s i y k out n hi (omega arith) (omega arith) hk slab-table p l
-
-      pub row-room : (len' : ℕ) → len' ≡ len → Room placing n (gets t (keyed low high s) out) out len'
+    module _ (h : y < j .to) where
+      pub row-room : (len' : ℕ) → len' ≡ len → Room placing n (gets t (leftIn (lineAt i y k) s) out) out len'
       row-room len' z =
-          subst (Room placing n (gets t (keyed low high s) out) out) (sym z)
-          (room-same placing n (gets t (rowIn i s k y) out) (gets t (keyed low high s) out) out len (λ p l. sym (row-same p l))
-          (part-room placing n t (leftIn (record { i = one i; j = j; k = k }) s) (rowsTo i s j k y) (rowIn i s k y) (rowsTo i s j k (y + 1)) o q len room
-          (more-j s j y (w .walk) (one i) k) (apart-j s j y (one i) k) (in-j s j (y + 1) (omega arith) (one i) k) out list (w .visits)))
+          subst (Room placing n (gets t (leftIn (lineAt i y k) s) out) out) (sym z)
+          (part-room placing n t (leftIn (record { i = one i; j = j; k = k }) s) (rowsTo i s j k y) (leftIn (lineAt i y k) s) (rowsTo i s j k (y + 1)) o q len room
+          (more-j s j y (w .walk) (one i) k) (apart-j s j y (one i) k) (in-j s j (y + 1) (omega arith) (one i) k) out list (w .visits))
 
-      pub slabbing-on : (out' list' : List ℕ) (x' : ℕ) → Visited placing n (gets t (keyed low high s) out) out list out' list' → Behind out n high x' → Slabbing placing n t i s j k o q out' list' x' (y + 1)
-      slabbing-on out' list' x' v b =
-          let back = bump-back n (gets t (rowsTo i s j k y) o) o out (w .visits .bumped) high x' b in
-          record {
-            walk = walk-on j y (w .walk) h;
-            visits =
-                part-done placing n t (leftIn (record { i = one i; j = j; k = k }) s) (rowsTo i s j k y) (rowIn i s k y) (rowsTo i s j k (y + 1)) o q len room
-                (more-j s j y (w .walk) (one i) k) (apart-j s j y (one i) k) (in-j s j (y + 1) (omega arith) (one i) k) out list (w .visits) out' list'
-                (visited-same n placing (gets t (keyed low high s) out) (gets t (rowIn i s k y) out) out list out' list' row-same v);
-            before-row = behind-more o n high (i * 65536 + (y + 1) * 256 + k .from) x' (omega arith) back;
-            before-slab = behind-more o n high ((i + 1) * 65536) x' (omega arith) back;
-          }
-
--- a row that the directions without k leave nothing of gets nothing
-row-empty : (i y : ℕ) (s : Slabs) (k : Ends) → SlabsFit s → keptRow s i y ≡ false → (c : Cell) → rowIn i s k y c ≡ false
-unfolding holds
-row-empty i y s k f z c = go ((between (one i) (c .i) && between (one y) (c .j)) && between k (c .k)) (keptAll s c) refl refl
-  where
-    here : (n x : ℕ) → between (one n) x ≡ true → x ≡ n
-    here n x h =
-        let p = leb-true n x (both-true (leb n x) (ltb x (n + 1)) h .0) in
-        let q = ltb-true x (n + 1) (both-true (leb n x) (ltb x (n + 1)) h .1) in
-        omega arith
-
-    go : (a b : Bool) → ((between (one i) (c .i) && between (one y) (c .j)) && between k (c .k)) ≡ a → keptAll s c ≡ b → (((between (one i) (c .i) && between (one y) (c .j)) && between k (c .k)) && keptAll s c) ≡ false
-    go false b e g = ap (λ (x : Bool). x && keptAll s c) e
-    go true false e g = ap (λ (x : Bool). x && keptAll s c) e ∙ g
-    go true true e g =
-        let ij = both-true (between (one i) (c .i) && between (one y) (c .j)) (between k (c .k)) e .0 in
-        let hi = here i (c .i) (both-true (between (one i) (c .i)) (between (one y) (c .j)) ij .0) in
-        let hj = here y (c .j) (both-true (between (one i) (c .i)) (between (one y) (c .j)) ij .1) in
-        absurd (true≢false (sym (kept-row s c f g) ∙ (λ t. keptRow s (hi t) (hj t)) ∙ z))
-
-pub slabbing-skip : (placing : Bool) (n t i : ℕ) (s : Slabs) (j k : Ends) (o q out list : List ℕ) (x y : ℕ) → SlabsFit s → keptRow s i y ≡ false → y < j .to
-    → Slabbing placing n t i s j k o q out list x y → Slabbing placing n t i s j k o q out list x (y + 1)
-slabbing-skip placing n t i s j k o q out list x y f z h w = record {
-  walk = walk-on j y (w .walk) h;
-  visits = visited-same n placing (gets t (rowsTo i s j k y) o) (gets t (rowsTo i s j k (y + 1)) o) o q out list same (w .visits);
-  before-row = behind-more o n (i * 65536 + y * 256 + k .from) (i * 65536 + (y + 1) * 256 + k .from) x (omega arith) (w .before-row);
-  before-slab = w .before-slab;
-}
-  where
-    same : (p : ℕ) → p < n → gets t (rowsTo i s j k y) o p ≡ gets t (rowsTo i s j k (y + 1)) o p
-    same p l =
-        let c = recordAt o p .cell in
-        sym (gets-either t (rowsTo i s j k y) (rowIn i s k y) (rowsTo i s j k (y + 1)) o p (more-j s j y (w .walk) (one i) k c) (apart-j s j y (one i) k c)
-        ∙ ap (λ (ys : List ℕ). gets t (rowsTo i s j k y) o p ++ ys) (gets-none t (rowIn i s k y) o p (row-empty i y s k f z c))
-        ∙ append-nil (gets t (rowsTo i s j k y) o p))
+      pub slabbing-on : (out' list' : List ℕ) → Visited placing n (gets t (leftIn (lineAt i y k) s) out) out list out' list' → Slabbing placing n t i s j k o q out' list' (y + 1)
+      slabbing-on out' list' v = record {
+        walk = walk-on j y (w .walk) h;
+        visits =
+            part-done placing n t (leftIn (record { i = one i; j = j; k = k }) s) (rowsTo i s j k y) (leftIn (lineAt i y k) s) (rowsTo i s j k (y + 1)) o q len room
+            (more-j s j y (w .walk) (one i) k) (apart-j s j y (one i) k) (in-j s j (y + 1) (omega arith) (one i) k) out list (w .visits) out' list' v;
+      }
 
 -- ---- slab after slab of a block
+
+-- the slab where the walk stands is none of those behind it
+apart-i : (s : Slabs) (e : Ends) (n : ℕ) (j k : Ends) (c : Cell) → (leftIn (record { i = upto e n; j = j; k = k }) s c && leftIn (record { i = one n; j = j; k = k }) s c) ≡ false
+unfolding holds
+apart-i s e n j k c = ⊎-elim (λ h. rw (le-ltb (c .i) n h) (never (leb (e .from) (c .i)))) (λ h. rw (lt-leb n (c .i) h) (last (((between (upto e n) (c .i) && between j (c .j)) && between k (c .k)) && keptAll s c))) (le-or-lt n (c .i))
+  where
+    last : (a : Bool) → (a && false) ≡ false
+    last true = refl
+    last false = refl
+
+    never : (a : Bool) → (((((a && false) && between j (c .j)) && between k (c .k)) && keptAll s c) && (((between (one n) (c .i) && between j (c .j)) && between k (c .k)) && keptAll s c)) ≡ false
+    never true = refl
+    never false = refl
 
 abbrev slabsTo : Slabs → Block → ℕ → Cell → Bool
 slabsTo s b y = leftIn (record { i = upto (b .i) y; j = b .j; k = b .k }) s
 
 module _ (placing : Bool) (n t : ℕ) (s : Slabs) (b : Block) (o q : List ℕ) where
-  pub record Blocking (out list : List ℕ) (x y : ℕ) : Type 0 where
+  pub record Blocking (out list : List ℕ) (y : ℕ) : Type 0 where
     pub walk : Walk (b .i) y
     pub visits : Visited placing n (gets t (slabsTo s b y) o) o q out list
-    pub before : Behind o n (y * 65536) x
 
 module _ (placing : Bool) (n t : ℕ) (s : Slabs) (b : Block) (o q : List ℕ) (len : ℕ) (table : Table o n)
     (room : Room placing n (gets t (leftIn b s) o) o len) where
-  pub blocking-first : Blocking placing n t s b o q o q 0 (b .i .from)
+  pub blocking-first : Blocking placing n t s b o q o q (b .i .from)
   blocking-first = record {
     walk = walk-starts (b .i);
     visits = visited-none n placing (gets t (slabsTo s b (b .i .from)) o) o q (λ p l. gets-none t (slabsTo s b (b .i .from)) o p (none-along-i s (b .i) (b .j) (b .k) (recordAt o p .cell)));
-    before = behind-none o n (b .i .from * 65536);
   }
 
-  module _ (out list : List ℕ) (x y : ℕ) (w : Blocking placing n t s b o q out list x y) where
+  module _ (out list : List ℕ) (y : ℕ) (w : Blocking placing n t s b o q out list y) where
     pub blocking-done : b .i .to ≤ y → Visited placing n (gets t (leftIn b s) o) o q out list
     blocking-done h = visited-same n placing (gets t (slabsTo s b y) o) (gets t (leftIn b s) o) o q out list
         (λ p l. gets-same t (slabsTo s b y) (leftIn b s) o p (done-i s (b .i) y (w .walk) h (b .j) (b .k) (recordAt o p .cell))) (w .visits)
 
     pub block-table : Table out n
     block-table = bump-table n (gets t (slabsTo s b y) o) o out (w .visits .bumped) table
-
-    pub slab-behind : (low : ℕ) → y * 65536 ≤ low → Behind out n low x
-    slab-behind low h = bump-behind n (gets t (slabsTo s b y) o) o out (w .visits .bumped) low x (behind-more o n (y * 65536) low x h (w .before))
 
     module _ (h : y < b .i .to) where
       pub slab-room : (len' : ℕ) → len' ≡ len → Room placing n (gets t (leftIn (slabAt b y) s) out) out len'
@@ -301,13 +378,12 @@ module _ (placing : Bool) (n t : ℕ) (s : Slabs) (b : Block) (o q : List ℕ) (
           (part-room placing n t (leftIn b s) (slabsTo s b y) (leftIn (slabAt b y) s) (slabsTo s b (y + 1)) o q len room
           (more-i s (b .i) y (w .walk) (b .j) (b .k)) (apart-i s (b .i) y (b .j) (b .k)) (in-i s (b .i) (y + 1) (omega arith) (b .j) (b .k)) out list (w .visits))
 
-      pub blocking-on : (out' list' : List ℕ) (x' : ℕ) → Visited placing n (gets t (leftIn (slabAt b y) s) out) out list out' list' → Behind out n ((y + 1) * 65536) x' → Blocking placing n t s b o q out' list' x' (y + 1)
-      blocking-on out' list' x' v a = record {
+      pub blocking-on : (out' list' : List ℕ) → Visited placing n (gets t (leftIn (slabAt b y) s) out) out list out' list' → Blocking placing n t s b o q out' list' (y + 1)
+      blocking-on out' list' v = record {
         walk = walk-on (b .i) y (w .walk) h;
         visits =
             part-done placing n t (leftIn b s) (slabsTo s b y) (leftIn (slabAt b y) s) (slabsTo s b (y + 1)) o q len room
             (more-i s (b .i) y (w .walk) (b .j) (b .k)) (apart-i s (b .i) y (b .j) (b .k)) (in-i s (b .i) (y + 1) (omega arith) (b .j) (b .k)) out list (w .visits) out' list' v;
-        before = bump-back n (gets t (slabsTo s b y) o) o out (w .visits .bumped) ((y + 1) * 65536) x' a;
       }
 
 -- ---- triangle after triangle
@@ -370,14 +446,3 @@ module _ (placing : Bool) (n : ℕ) (ps : List Float) (ts : List ℕ) (r : Axes)
             visited-then n (allOf ps ts r at o (t + 1)) (allOf ps ts r at o t) one-more o grows placing len upto-room q out list out' list' (w .visits)
             (visited-same n placing (gets t (hits ps ts r at t) out) one-more out list out' list' kept-gets v);
       }
-
--- a block that holds a cell of the grid begins along j before the last place, and ends along k behind where it begins
-pub held-ends : (b : Block) (c : Cell) → c .j < 256 → holds b c ≡ true → (b .j .from < 256) × (b .k .from ≤ b .k .to)
-unfolding holds
-held-ends b c l h =
-    let e = both-true (between (b .i) (c .i)) (between (b .j) (c .j)) (both-true (between (b .i) (c .i) && between (b .j) (c .j)) (between (b .k) (c .k)) h .0) .1 in
-    let z = leb-true (b .j .from) (c .j) (both-true (leb (b .j .from) (c .j)) (ltb (c .j) (b .j .to)) e .0) in
-    let g = both-true (between (b .i) (c .i) && between (b .j) (c .j)) (between (b .k) (c .k)) h .1 in
-    let x = leb-true (b .k .from) (c .k) (both-true (leb (b .k .from) (c .k)) (ltb (c .k) (b .k .to)) g .0) in
-    let y = ltb-true (c .k) (b .k .to) (both-true (leb (b .k .from) (c .k)) (ltb (c .k) (b .k .to)) g .1) in
-    (omega arith, omega arith)

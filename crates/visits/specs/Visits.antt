@@ -1,15 +1,30 @@
 -- The slabs of a block, and what all triangles give to a record. Definitions only.
+use mathlib.Core.Bool.{true}
+use mathlib.Core.Path.{_≡_}
 use mathlib.Core.List.{List}
 use Prim.Native.Nat.{ℕ}
 use lib.Ieee.{Float}
 use Rattle.grid.specs.declared.Axes.{Axes}
 use Rattle.grid.specs.declared.Placement.{Placement}
 use Rattle.mesh.specs.declared.Block.{Block}
+use Rattle.mesh.specs.declared.Ends.{Ends}
+use Rattle.mesh.specs.Ranges.{between}
+use Rattle.touch.specs.declared.Slabs.{Slabs}
+use Rattle.touch.specs.Slabs.{keptAll}
+use Rattle.intervals.specs.Intervals.{restAlongK}
 use Rattle.marking.specs.Marked.{hits}
 use Rattle.marking.specs.Painted.{one}
 use Rattle.order.specs.Order.{chosen}
 use Rattle.listed.specs.Listed.{recordAt}
 use Rattle.rows.specs.Rows.{meets}
+
+-- row (i, j) along k
+abbrev pub lineAt : ℕ → ℕ → Ends → Block
+lineAt i j k = record { i = one i; j = one j; k = k }
+
+-- in a row that has been cut so far, the rest of the directions decide
+pub record LineRest (s : Slabs) (e : Ends) (i j : ℕ) : Type 0 where
+  pub rest : (x : ℕ) → between e x ≡ true → keptAll s (record { i = i; j = j; k = x }) ≡ restAlongK s i j x
 
 -- slab i of a block
 abbrev pub slabAt : Block → ℕ → Block

@@ -2,7 +2,7 @@
 use native.Mathlib.Omega.{arith}
 use Prim.Native.Nat.{_-_}
 use Rattle.marking.specs.Painted.{leftIn}
-use Rattle.marking.proofs.Paint.{Along, along-starts, along-on, along-sheet, painted-same, none-along-k, more-k, done-k}
+use Rattle.marking.proofs.Paint.{Along, along-starts, along-on, along-sheet, painted-same, none-along-k, more-k, done-k, layer-axes}
 use Rattle.marking.proofs.mark_block.Statement.{statement}
 use Rattle.marking.proofs.mark_block.Tie as tie
 
@@ -22,7 +22,7 @@ mark-layer-requires c κs =
     let a = c .before .before .before .before .args in
     let p = c .before .before .before .before .pre in
     let h = p .1 .1 in
-    (along-sheet (a .r) (a .b .k) (c .before .before .loop .k) _ _ _ (c .before .before .loop .inv) (p .0), (p .1 .0, (h .0, h .1, omega (arith, h .2, c .before .loop-test .taken))))
+    (along-sheet (a .r) (a .b .k) (c .before .before .loop .k) _ _ _ (c .before .before .loop .inv) (p .0), ((p .1 .0 .0, layer-axes (a .s) (a .b) (c .before .before .loop .k) (p .1 .0 .1) (c .before .before .loop .inv .walk .low) (c .before .loop-test .taken)), (h .0, h .1, omega (arith, h .2, c .before .loop-test .taken))))
 
 add-k : tie.Need-add-k Inv-loop μ-loop
 add-k c = omega (arith, c .before .before .before .before .before .before .before .pre .1 .1 .2, c .before .before .before .before .loop-test .taken, c .before .before .before .before .before .before .before .pre .0 .sound .axis2 .most)

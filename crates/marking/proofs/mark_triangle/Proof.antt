@@ -7,7 +7,7 @@ sweep-of-requires : tie.Need-sweep-of-requires
 sweep-of-requires c κs = (c .before .before .before .pre .0 .sound, c .before .before .before .pre .1)
 
 mark-block-requires : tie.Need-mark-block-requires
-mark-block-requires c κs = let w = c .before .sweep-of .ensures in (c .before .before .before .before .before .pre .0, (w .fit, (w .i-in, w .j-in, w .k-in)))
+mark-block-requires c κs = let w = c .before .sweep-of .ensures in (c .before .before .before .before .before .pre .0, ((w .fit, w .axial), (w .i-in, w .j-in, w .k-in)))
 
 same-length : tie.Need-same-length
 same-length c = c .before .before .mark-block .ensures .size

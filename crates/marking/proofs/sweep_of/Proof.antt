@@ -1,19 +1,25 @@
 -- `marking::sweep_of` meets its contract: the cells of the block that the slabs leave are those that the triangle hits. Assumes nothing.
-use mathlib.Core.Bool.{true, _&&_}
+use mathlib.Core.Bool.{Bool, true, false, _&&_}
 use mathlib.Core.List.{List}
-use mathlib.Core.Path.{_≡_, sym, ap, subst, _∙_}
-use lib.Dec.{lit<}
+use mathlib.Core.Path.{_≡_, refl, sym, ap, subst, _∙_}
+use native.Mathlib.Nat.{le-trans}
+use lib.Dec.{T, lit<}
 use lib.IntN.{ℤ}
 use Rattle.grid.specs.declared.Cell.{Cell}
-use Rattle.touch.specs.Slabs.{TriangleFits, SlabsFit}
+use Rattle.grid.proofs.First.{both-true}
+use Rattle.touch.specs.declared.Slabs.{Slabs}
+use Rattle.touch.specs.Slabs.{keptAll, TriangleFits, SlabsFit}
 use Rattle.grid.specs.Grid.{InGrid}
 use Rattle.touch.specs.Touch.{vertex, touching}
-use Rattle.touch.proofs.Laws.{slabs-fit}
+use Rattle.touch.proofs.Meaning.{own-cell}
+use Rattle.touch.proofs.Laws.{slabs-fit, slabs-touch}
 use Rattle.mesh.specs.Mesh.{triangleOf, isCandidate}
-use Rattle.mesh.specs.Ranges.{OnCells}
+use Rattle.mesh.specs.Ranges.{OnCells, holds}
+use Rattle.intervals.specs.Intervals.{axesLeave}
+use Rattle.intervals.proofs.Laws.{kept-axes}
 use Rattle.mesh.proofs.Laws.{on-cells, on-vertex, corners, block-test, ends-in, own-cell-of, own-in, own-is-candidate}
 use Rattle.marking.specs.Marked.{hits}
-use Rattle.marking.proofs.Paint.{left-hits}
+use Rattle.marking.proofs.Paint.{left-hits, clip-left}
 use Rattle.marking.proofs.sweep_of.Statement.{statement}
 use Rattle.marking.proofs.sweep_of.Tie as tie
 
@@ -27,13 +33,17 @@ fits c =
     let a = c .before .before .before .args in
     subst TriangleFits (sym (c .triangle-of .ensures)) (corners (a .ps .now) (a .ts .now) (a .r) (a .at) (a .t) (c .before .before .before .pre .0) (placed c))
 
--- the cell of the first vertex
-own : (c : tie.After-triangle-of) → (d : Cell) × InGrid (c .before .before .before .args .r) d × (isCandidate (triangleOf (c .before .before .before .args .ps .now) (c .before .before .before .args .ts .now) (c .before .before .before .args .at) (c .before .before .before .args .t)) (c .before .before .before .args .r) d ≡ true)
+true-of : (b : Bool) → T b → b ≡ true
+true-of true h = refl
+true-of false h = absurd h
+
+-- the cell of the first vertex, which is a candidate and touched
+own : (c : tie.After-triangle-of) → (d : Cell) × InGrid (c .before .before .before .args .r) d × (isCandidate (triangleOf (c .before .before .before .args .ps .now) (c .before .before .before .args .ts .now) (c .before .before .before .args .at) (c .before .before .before .args .t)) (c .before .before .before .args .r) d ≡ true) × (touching (triangleOf (c .before .before .before .args .ps .now) (c .before .before .before .args .ts .now) (c .before .before .before .args .at) (c .before .before .before .args .t)) d ≡ true)
 own c =
     let a = c .before .before .before .args in
     let t = triangleOf (a .ps .now) (a .ts .now) (a .at) (a .t) in
     let w = own-cell-of (a .r) (vertex t 0) (on-vertex (a .r) t (placed c) 0 (lit< tt)) in
-    (w .0, own-in (a .r) (vertex t 0) (w .0) (on-vertex (a .r) t (placed c) 0 (lit< tt)) (w .1), own-is-candidate t (a .r) 0 (w .0) (placed c) (lit< tt) (w .1))
+    (w .0, own-in (a .r) (vertex t 0) (w .0) (on-vertex (a .r) t (placed c) 0 (lit< tt)) (w .1), own-is-candidate t (a .r) 0 (w .0) (placed c) (lit< tt) (w .1), true-of (touching t (w .0)) (own-cell t (w .0) 0 (lit< tt) (w .1 .on-i) (w .1 .on-j) (w .1 .on-k)))
 
 triangle-of-requires : tie.Need-triangle-of-requires
 triangle-of-requires c κs = (c .before .before .pre .1 .0 .named, c .before .before .pre .1 .1)
@@ -44,23 +54,43 @@ candidates-requires c κs = (subst (OnCells (c .before .before .before .args .r)
 slabs-of-requires : tie.Need-slabs-of-requires
 slabs-of-requires c κs = fits (c .before)
 
+-- the slabs have their ranges
+slabs-ok : (c : tie.After-slabs-of) → SlabsFit (c .slabs-of .result)
+slabs-ok c = subst SlabsFit (sym (c .slabs-of .ensures)) (slabs-fit (c .before .before .triangle-of .result) (fits (c .before .before)))
+
+clip-requires : tie.Need-clip-requires
+clip-requires c κs =
+    let w = c .before .candidates .ensures in
+    let s = c .before .before .before .before .before .pre .0 in
+    ((le-trans (ends-in _ _ _ _ _ (w .on-i)) (s .axis0 .most), le-trans (ends-in _ _ _ _ _ (w .on-j)) (s .axis1 .most), le-trans (ends-in _ _ _ _ _ (w .on-k)) (s .axis2 .most)), (slabs-ok c .axes-ok, slabs-ok c .axes-axial))
+
 returns : tie.Need-returns
 unfolding hits
 returns c =
-    let a = c .before .before .before .before .before .args in
-    let t = c .before .before .triangle-of .result in
-    let is = c .before .before .triangle-of .ensures in
-    let w = c .before .candidates .ensures in
+    let a = c .before .before .before .before .before .before .args in
+    let t = c .before .before .before .triangle-of .result in
+    let is = c .before .before .before .triangle-of .ensures in
+    let all = c .before .before .candidates .result in
+    let w = c .before .before .candidates .ensures in
+    let s = c .before .slabs-of .result in
+    let ok = slabs-ok (c .before) in
+    let own-is = own (c .before .before .before) in
+    let d = own-is .0 in
+    let held : holds all d ≡ true = block-test t (a .r) all w d ∙ ap (λ (x : List (List ℤ)). isCandidate x (a .r) d) is ∙ own-is .2 in
+    let left : keptAll s d ≡ true = ap (λ (x : Slabs). keptAll x d) (c .before .slabs-of .ensures) ∙ slabs-touch t d ∙ ap (λ (x : List (List ℤ)). touching x d) is ∙ own-is .3 in
     record {
-      fit = subst SlabsFit (sym (c .slabs-of .ensures)) (slabs-fit t (fits (c .before .before)));
-      i-in = ends-in _ _ _ _ _ (w .on-i);
-      j-in = ends-in _ _ _ _ _ (w .on-j);
-      k-in = ends-in _ _ _ _ _ (w .on-k);
-      some = own (c .before .before) .0;
-      some-in = own (c .before .before) .1;
-      some-held = block-test t (a .r) (c .before .candidates .result) w (own (c .before .before) .0) ∙ ap (λ (x : List (List ℤ)). isCandidate x (a .r) (own (c .before .before) .0)) is ∙ own (c .before .before) .2;
-      cells = λ (d : Cell). left-hits t (a .r) (c .before .candidates .result) (c .slabs-of .result) w (c .slabs-of .ensures) d ∙ ap (λ (x : List (List ℤ)). isCandidate x (a .r) d && touching x d) is;
+      fit = ok;
+      axial = record { leave = λ e h. both-true (holds all e) (axesLeave (s .axes) e) (sym (c .clip .ensures .cells e) ∙ h) .1 };
+      i-in = le-trans (c .clip .ensures .i-within) (ends-in _ _ _ _ _ (w .on-i));
+      j-in = le-trans (c .clip .ensures .j-within) (ends-in _ _ _ _ _ (w .on-j));
+      k-in = le-trans (c .clip .ensures .k-within) (ends-in _ _ _ _ _ (w .on-k));
+      some = d;
+      some-in = own-is .1;
+      some-held = c .clip .ensures .cells d ∙ (λ i. held i && kept-axes s ok (d .i) (d .j) (d .k) left i);
+      cells = λ (e : Cell).
+          clip-left s all (c .clip .result) ok (c .clip .ensures) e
+          ∙ left-hits t (a .r) all s w (c .before .slabs-of .ensures) e ∙ ap (λ (x : List (List ℤ)). isCandidate x (a .r) e && touching x e) is;
     }
 
 pub sweep-of-spec : {M : Type 1} → statement M
-sweep-of-spec = tie.close (tie.spec triangle-of-requires candidates-requires slabs-of-requires returns)
+sweep-of-spec = tie.close (tie.spec triangle-of-requires candidates-requires slabs-of-requires clip-requires returns)

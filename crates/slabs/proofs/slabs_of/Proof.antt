@@ -1,11 +1,10 @@
 -- `slabs::slabs_of` meets its contract. Assumes nothing.
 use lib.Dec.{lit<}
-use Rattle.touch.proofs.Laws.{axis-dir}
 use Rattle.slabs.proofs.slabs_of.Statement.{statement}
 use Rattle.slabs.proofs.slabs_of.Tie as tie
 
-three-along-requires : tie.Need-three-along-requires
-three-along-requires c κs = ((axis-dir 1 0 0 tt tt tt, axis-dir 0 1 0 tt tt tt, axis-dir 0 0 1 tt tt tt), c .pre)
+axes-of-requires : tie.Need-axes-of-requires
+axes-of-requires c κs = c .pre
 
 normal-slab-requires : tie.Need-normal-slab-requires
 normal-slab-requires c κs = c .before .pre
@@ -39,7 +38,7 @@ products-requires-3 c κs = ((c .before .before .before .before .before .before 
 
 returns : tie.Need-returns
 returns c =
-    let axes = c .before .before .before .before .before .before .before .before .before .before .three-along .ensures in
+    let axes = c .before .before .before .before .before .before .before .before .before .before .axes-of .ensures in
     let normal = c .before .before .before .before .before .before .before .before .before .normal-slab .ensures in
     let edge01 = c .before .before .before .before .before .before .products .ensures in
     let edge12 = c .before .before .before .products2 .ensures in
@@ -50,7 +49,7 @@ pub slabs-of-spec : {M : Type 1} → statement M
 slabs-of-spec =
     tie.close
     (tie.spec
-    three-along-requires
+    axes-of-requires
     normal-slab-requires
     array-copy-out-products
     array-copy-out-products-2

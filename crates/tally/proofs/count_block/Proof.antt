@@ -5,7 +5,7 @@ use mathlib.Core.Path.{_∙_}
 use Prim.Native.Nat.{_-_}
 use native.Mathlib.Omega.{arith}
 use Rattle.marking.specs.Painted.{leftIn, layerOf}
-use Rattle.marking.proofs.Paint.{more-k, none-along-k, done-k}
+use Rattle.marking.proofs.Paint.{more-k, none-along-k, done-k, layer-axes}
 use Rattle.tally.specs.Pairs.{surfaceIn}
 use Rattle.tally.proofs.Sizes.{Tallied, tallied-starts, tallied-on, tallied-most, surface-same, size-most, apart-k}
 
@@ -19,7 +19,11 @@ loop-holds : tie.Need-loop-holds Inv-loop μ-loop
 loop-holds c = let a = c .before .args in tallied-starts (a .r) (a .labels .now) (a .b .k) _ (none-along-k (a .s) (a .b .k) (a .b .i) (a .b .j))
 
 count-layer-requires : tie.Need-count-layer-requires Inv-loop μ-loop
-count-layer-requires c κs = let p = c .before .before .before .pre in let h = p .1 .1 in (p .0, (p .1 .0, (h .0, h .1, omega (arith, h .2, c .loop-test .taken))))
+count-layer-requires c κs =
+    let a = c .before .before .before .args in
+    let p = c .before .before .before .pre in
+    let h = p .1 .1 in
+    (p .0, ((p .1 .0 .0, layer-axes (a .s) (a .b) (c .before .loop .k) (p .1 .0 .1) (c .before .loop .inv .walk .low) (c .loop-test .taken)), (h .0, h .1, omega (arith, h .2, c .loop-test .taken))))
 
 add-n : tie.Need-add-n Inv-loop μ-loop
 add-n c = let a = c .before .before .before .before .args in let s = c .before .before .before .before .pre .0 .sound in omega (arith, tallied-most (a .r) s (a .b .k) _ _ _ (c .before .before .loop .inv), c .count-layer .ensures, size-most (a .r) s (surfaceIn (a .r) (a .labels .now) (leftIn (layerOf (a .b) (c .before .before .loop .k)) (a .s))))

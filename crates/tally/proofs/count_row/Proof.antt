@@ -1,81 +1,91 @@
--- `tally::count_row` meets its contract: a loop along i (`Tallied`), a cell in each turn. Assumes nothing.
-use Rattle.tally.proofs.count_row.Statement.{statement}
-use Rattle.tally.proofs.count_row.Tie as tie
-use mathlib.Core.Bool.{Bool, true, false, _&&_}
-use mathlib.Core.Path.{_≡_, refl, sym, ap, _∙_}
-use Prim.Native.Nat.{ℕ, _-_}
+-- `tally::count_row` meets its contract: a loop along i (`Tallied`), a cell in each turn, over the part that the slabs leave. Assumes nothing.
+use borrow.Author.Needs.{needs}
+use mathlib.Core.Bool.{Bool, true, false, cond}
+use mathlib.Core.Path.{_≡_, ap, _∙_}
+use Prim.Native.Nat.{ℕ, _-_, _≤_}
+use native.Mathlib.Nat.{le-trans}
 use native.Mathlib.Omega.{arith}
 use lib.Dec.{eqb}
 use lib.ListN.{getD}
-use borrow.Author.Tests.{ne-eqb}
 use Rattle.grid.specs.declared.Cell.{Cell}
-use Rattle.grid.specs.Grid.{InGrid, num, at}
+use Rattle.grid.specs.Grid.{InGrid}
 use Rattle.grid.proofs.Cells.{num-lt}
-use Rattle.touch.specs.Slabs.{keptAll}
-use Rattle.marking.specs.Painted.{leftIn, rowOf, one}
-use Rattle.marking.proofs.Paint.{none-along-i, done-i}
+use Rattle.mesh.specs.Ranges.{holds}
+use Rattle.marking.specs.Painted.{rowOf}
+use Rattle.marking.proofs.Paint.{none-held, done-held, held-left}
 use Rattle.tally.specs.Pairs.{surfaceIn}
-use Rattle.tally.proofs.Sizes.{Tallied, tallied-starts, surface-same, turn-yes, turn-no, tallied-most}
+use Rattle.tally.proofs.Sizes.{Tallied, tallied-starts, surface-same, turn, tallied-most}
+use Rattle.tally.proofs.count_row.Statement.{statement}
+use Rattle.tally.proofs.count_row.Tie as tie
 
 abbrev Inv-loop : tie.InvT-loop
-Inv-loop labels s r j k to n₀ i₀ n i = Tallied r (record { from = i₀; to = to }) i (surfaceIn r labels (leftIn (rowOf (record { from = i₀; to = i }) j k) s)) n
+Inv-loop labels r j k to n₀ i₀ n i = Tallied r (record { from = i₀; to = to }) i (surfaceIn r labels (holds (rowOf (record { from = i₀; to = i }) j k))) n
 
 abbrev μ-loop : tie.MeasureT-loop
-μ-loop labels s r j k to n₀ i₀ n i = to - i
+μ-loop labels r j k to n₀ i₀ n i = to - i
+
+rest-along-i-requires : tie.Need-rest-along-i-requires Inv-loop μ-loop
+rest-along-i-requires c κs =
+    let p = c .before .pre in
+    let s = p .0 .sound in
+    let h = p .1 .1 in
+    (le-trans (h .0) (s .axis0 .most), p .1 .0 .0, omega (arith, h .1, s .axis1 .most), omega (arith, h .2, s .axis2 .most))
 
 -- the cell of a turn
 abbrev cell : tie.In-loop Inv-loop μ-loop → Cell
-cell c = record { i = c .before .loop .i; j = c .before .before .before .args .j; k = c .before .before .before .args .k }
+cell c = record { i = c .before .loop .i; j = c .before .before .before .before .args .j; k = c .before .before .before .before .args .k }
 
-here : (c : tie.In-loop Inv-loop μ-loop) → InGrid (c .before .before .before .args .r) (cell c)
-here c = let p = c .before .before .before .pre .1 .1 in record { i-in = omega (arith, p .0, c .loop-test .taken); j-in = p .1; k-in = p .2 }
+here : (c : tie.In-loop Inv-loop μ-loop) → InGrid (c .before .before .before .before .args .r) (cell c)
+here c =
+    let p = c .before .before .before .before .pre .1 .1 in
+    record { i-in = omega (arith, p .0, c .loop-test .taken, c .before .before .rest-along-i .ensures .within); j-in = p .1; k-in = p .2 }
 
--- its label is the one that is read
-label-is : (c : tie.In-loop Inv-loop μ-loop) (n : ℕ) → n ≡ num (c .before .before .before .args .r) (cell c) → getD (c .before .before .before .args .labels .now) n 0 ≡ at (c .before .before .before .args .r) (c .before .before .before .args .labels .now) (cell c)
-label-is c n e = ap (λ (k : ℕ). getD (c .before .before .before .args .labels .now) k 0) e
-
-never : (a b : Bool) → b ≡ false → (a && b) ≡ false
-never true b h = h
-never false b h = refl
+one-at-most : (b : Bool) → cond {A = ℕ} b 1 0 ≤ 1
+one-at-most true = omega arith
+one-at-most false = omega arith
 
 loop-holds : tie.Need-loop-holds Inv-loop μ-loop
-loop-holds c = let a = c .before .args in tallied-starts (a .r) (a .labels .now) (a .e) _ (none-along-i (a .s) (a .e) (one (a .j)) (one (a .k)))
-
-add-i : tie.Need-add-i Inv-loop μ-loop
-add-i c = omega (arith, c .loop-test .taken, c .before .before .before .pre .1 .1 .0, c .before .before .before .pre .0 .sound .axis0 .most)
+loop-holds c =
+    let a = c .before .before .args in
+    let e = c .rest-along-i .result in
+    tallied-starts (a .r) (a .labels .now) e _ (none-held e (a .j) (a .k))
 
 number-requires : tie.Need-number-requires Inv-loop μ-loop
-number-requires c κs = (here c, c .before .before .before .pre .0 .sound)
+number-requires c κs = (here c, c .before .before .before .before .pre .0 .sound)
 
-shared-slice-read-if1 : tie.Need-shared-slice-read-if1 Inv-loop μ-loop
-shared-slice-read-if1 c = omega (arith, c .before .number .ensures, num-lt (c .before .before .before .before .before .args .r) (cell (c .before .before)) (here (c .before .before)), c .before .before .before .before .before .pre .0 .size)
+shared-slice-read-surface-count : tie.Need-shared-slice-read-surface-count Inv-loop μ-loop
+shared-slice-read-surface-count c = omega (arith, c .before .number .ensures, num-lt (c .before .before .before .before .before .before .args .r) (cell (c .before .before)) (here (c .before .before)), c .before .before .before .before .before .before .pre .0 .size)
 
-within-requires : tie.Need-within-requires Inv-loop μ-loop
-within-requires c κs = let s = c .before .before .before .before .before .before .pre .0 .sound in let h = here (c .before .before .before) in (c .before .before .before .before .before .before .pre .1 .0, record { i-near = omega (arith, h .i-in, s .axis0 .most); j-near = omega (arith, h .j-in, s .axis1 .most); k-near = omega (arith, h .k-in, s .axis2 .most) })
+surface-count-requires : tie.Need-surface-count-requires Inv-loop μ-loop
+surface-count-requires c κs = search needs
 
 add-n : tie.Need-add-n Inv-loop μ-loop
-add-n c = omega (arith, tallied-most (c .before .before .before .before .before .before .before .before .args .r) (c .before .before .before .before .before .before .before .before .pre .0 .sound) (c .before .before .before .before .before .before .before .before .args .e) _ _ _ (c .before .before .before .before .before .before .loop .inv))
+add-n c =
+    let a = c .before .before .before .before .before .before .before .args in
+    let l = getD (a .labels .now) (c .before .before .number .result) 0 in
+    omega (arith, tallied-most (a .r) (c .before .before .before .before .before .before .before .pre .0 .sound) (c .before .before .before .before .before .rest-along-i .result) _ _ _ (c .before .before .before .before .loop .inv), c .surface-count .ensures, one-at-most (eqb l 8))
+
+add-i : tie.Need-add-i Inv-loop μ-loop
+add-i c = omega (arith, here (c .before .before .before) .i-in, c .before .before .before .before .before .before .before .pre .0 .sound .axis0 .most)
 
 loop-less : tie.Need-loop-less Inv-loop μ-loop
-loop-less c = omega (arith, c .before .before .before .before .before .loop-test .taken)
+loop-less c = omega (arith, c .before .before .before .loop-test .taken)
 
 loop-again : tie.Need-loop-again Inv-loop μ-loop
-loop-again c = let a = c .before .before .before .before .before .before .before .before .args in turn-yes (a .r) (a .labels .now) (a .s) (a .e) _ (a .j) (a .k) _ (here (c .before .before .before .before .before)) (c .before .before .before .before .before .loop-test .taken) (c .before .before .before .before .before .before .loop .inv) (sym (label-is (c .before .before .before .before .before) _ (c .before .before .before .before .number .ensures)) ∙ c .before .before .if1 .taken) (sym (c .before .within .ensures) ∙ c .if2 .taken)
-
-loop-less-2 : tie.Need-loop-less-2 Inv-loop μ-loop
-loop-less-2 c = omega (arith, c .before .before .before .before .before .loop-test .taken)
-
-loop-again-2 : tie.Need-loop-again-2 Inv-loop μ-loop
-loop-again-2 c = let a = c .before .before .before .before .before .before .before .before .args in turn-no (a .r) (a .labels .now) (a .s) (a .e) _ (a .j) (a .k) _ (here (c .before .before .before .before .before)) (c .before .before .before .before .before .loop-test .taken) (c .before .before .before .before .before .before .loop .inv) (never (eqb (at (a .r) (a .labels .now) (cell (c .before .before .before .before .before))) 8) _ (sym (c .before .within .ensures) ∙ c .if2 .left))
-
-loop-less-3 : tie.Need-loop-less-3 Inv-loop μ-loop
-loop-less-3 c = omega (arith, c .before .before .before .loop-test .taken)
-
-loop-again-3 : tie.Need-loop-again-3 Inv-loop μ-loop
-loop-again-3 c = let a = c .before .before .before .before .before .before .args in turn-no (a .r) (a .labels .now) (a .s) (a .e) _ (a .j) (a .k) _ (here (c .before .before .before)) (c .before .before .before .loop-test .taken) (c .before .before .before .before .loop .inv) (ap (λ (b : Bool). b && keptAll (a .s) (cell (c .before .before .before))) (ne-eqb _ 8 (λ e. c .if1 .left (label-is (c .before .before .before) _ (c .before .before .number .ensures) ∙ e))))
+loop-again c =
+    let a = c .before .before .before .before .before .before .before .args in
+    let l = c .before .before .before in
+    turn (a .r) (a .labels .now) (c .before .before .before .before .before .rest-along-i .result) _ (a .j) (a .k) _ _ (here l) (l .loop-test .taken) (c .before .before .before .before .loop .inv)
+    (c .surface-count .ensures ∙ ap {B = ℕ} (λ (n : ℕ). cond (eqb (getD (a .labels .now) n 0) 8) 1 0) (c .before .before .number .ensures))
 
 returns : tie.Need-returns Inv-loop μ-loop
-returns c = let a = c .before .before .before .args in let w = c .before .loop .inv in w .count ∙ surface-same (a .r) (a .labels .now) _ _ (done-i (a .s) (a .e) (c .before .loop .i) (w .walk) (c .loop-test .left) (one (a .j)) (one (a .k)))
+returns c =
+    let a = c .before .before .before .before .args in
+    let w = c .before .loop .inv in
+    let e = c .before .before .rest-along-i in
+    w .count
+    ∙ surface-same (a .r) (a .labels .now) _ _
+    (λ d. done-held (e .result) (a .j) (a .k) (c .before .loop .i) (w .walk) (c .loop-test .left) d ∙ held-left (a .e) (a .j) (a .k) (a .s) (e .result) (c .before .before .before .before .pre .1 .0 .1) (e .ensures) d)
 
 pub count-row-spec : {M : Type 1} → statement M
 count-row-spec =
@@ -83,16 +93,13 @@ count-row-spec =
     (tie.spec
     Inv-loop
     μ-loop
+    rest-along-i-requires
     loop-holds
-    add-i
     number-requires
-    shared-slice-read-if1
-    within-requires
+    shared-slice-read-surface-count
+    surface-count-requires
     add-n
+    add-i
     loop-less
     loop-again
-    loop-less-2
-    loop-again-2
-    loop-less-3
-    loop-again-3
     returns)

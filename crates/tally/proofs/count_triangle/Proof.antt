@@ -8,7 +8,7 @@ sweep-of-requires : tie.Need-sweep-of-requires
 sweep-of-requires c κs = (c .before .before .before .pre .0 .sound, c .before .before .before .pre .1)
 
 count-block-requires : tie.Need-count-block-requires
-count-block-requires c κs = let w = c .sweep-of .ensures in (c .before .before .before .before .pre .0, (w .fit, (w .i-in, w .j-in, w .k-in)))
+count-block-requires c κs = let w = c .sweep-of .ensures in (c .before .before .before .before .pre .0, ((w .fit, w .axial), (w .i-in, w .j-in, w .k-in)))
 
 returns : tie.Need-returns
 returns c = let a = c .before .before .before .before .before .args in c .count-block .ensures ∙ surface-same (a .r) (a .labels .now) _ _ (c .before .sweep-of .ensures .cells)

@@ -1,81 +1,71 @@
--- `visits::visit_slab` meets its contract: row after row (`Slabbing`). Assumes nothing.
+-- `visits::visit_slab` meets its contract: row after row (`Slabbing`), over what the slab's cuts leave. Assumes nothing.
 use Rattle.visits.proofs.visit_slab.Statement.{statement}
 use Rattle.visits.proofs.visit_slab.Tie as tie
-use mathlib.Core.Path.{sym, _∙_}
-use Prim.Native.Nat.{_-_, _≤_}
+use Prim.Native.Nat.{_-_}
+use native.Mathlib.Nat.{le-trans}
 use native.Mathlib.Omega.{arith}
 use Rattle.rows.proofs.Visiting.{visited-size}
-use Rattle.visits.proofs.Sweeping.{Slabbing, slabbing-first, slabbing-done, slabbing-on, slabbing-skip, slab-table, row-behind, row-room}
+use Rattle.visits.proofs.Sweeping.{Slabbing, slabbing-first, slabbing-done, slabbing-on, slab-table, row-room, line-rest, slice-room, slice-done}
 
 abbrev Inv-loop : tie.InvT-loop
-Inv-loop records₀ list₀ n s t placing i from to first past x₀ gap₀ j₀ records list x gap j = Slabbing placing n t i s (record { from = j₀; to = to }) (record { from = first; to = past }) records₀ list₀ records list x j × (gap ≤ 16777216)
+Inv-loop records₀ list₀ guesses n s t placing i e to j₀ records list j = Slabbing placing n t i s (record { from = j₀; to = to }) e records₀ list₀ records list j
 
 abbrev μ-loop : tie.MeasureT-loop
-μ-loop records₀ list₀ n s t placing i from to first past x₀ gap₀ j₀ records list x gap j = to - j
+μ-loop records₀ list₀ guesses n s t placing i e to j₀ records list j = to - j
+
+slice-along-j-requires : tie.Need-slice-along-j-requires Inv-loop μ-loop
+slice-along-j-requires c κs = let p = c .before .before .before .pre in (p .1 .0 .1, p .0 .1, p .1 .0 .0)
+
+slice-along-k-requires : tie.Need-slice-along-k-requires Inv-loop μ-loop
+slice-along-k-requires c κs = let p = c .before .before .before .before .pre in (p .1 .0 .2, p .0 .1, p .1 .0 .0)
 
 loop-holds : tie.Need-loop-holds Inv-loop μ-loop
-loop-holds c = (slabbing-first (c .before .before .args .placing) (c .before .before .args .n) (c .before .before .args .t) (c .before .before .args .i) (c .before .before .args .s) (c .before .before .args .b .j) (c .before .before .args .b .k) (c .before .before .args .records .now) (c .before .before .args .list .now) _ (c .before .before .pre .0 .0) (c .before .before .pre .1 .0 .0) (c .before .before .pre .1 .0 .1) (c .before .before .pre .1 .0 .2) (c .before .before .pre .1 .0 .3) (c .before .before .pre .1 .0 .4) (c .before .before .pre .1 .1 .1) (c .before .before .args .from) (c .before .before .pre .1 .1 .0), omega arith)
+loop-holds c =
+    let a = c .before .before .before .before .before .args in let p = c .before .before .before .before .before .pre in let f = c .before .slice-along-j in let e = c .slice-along-k in
+    slabbing-first (a .placing) (a .n) (a .t) (a .i) (a .s) (f .result) (e .result) (a .records .now) (a .list .now) _ (p .0 .0)
+    (slice-room (a .s) (p .0 .1) (a .b) (a .i) (f .result) (e .result) (f .ensures) (e .ensures) (a .placing) (a .n) (a .t) (a .records .now) _ (p .1 .1))
 
-add-j : tie.Need-add-j Inv-loop μ-loop
-add-j c = omega (arith, c .loop-test .taken, c .before .before .before .before .pre .1 .0 .2)
-
-row-within-requires : tie.Need-row-within-requires Inv-loop μ-loop
-row-within-requires c κs = let p = c .before .before .before .before .pre in (p .0 .1, (p .1 .0 .0, omega (arith, p .1 .0 .2, c .loop-test .taken)))
-
-key-of-requires : tie.Need-key-of-requires Inv-loop μ-loop
-key-of-requires c κs = let p = c .before .before .before .before .before .before .pre .1 .0 in (omega (arith, p .0), omega (arith, p .2, c .before .before .loop-test .taken), omega (arith, p .3, p .4))
-
-key-of-requires-2 : tie.Need-key-of-requires-2 Inv-loop μ-loop
-key-of-requires-2 c κs = let p = c .before .before .before .before .before .before .before .pre .1 .0 in (omega (arith, p .0), omega (arith, p .2, c .before .before .before .loop-test .taken), omega (arith, p .4))
-
-add-find : tie.Need-add-find Inv-loop μ-loop
-add-find c = omega (arith, c .before .before .before .before .before .before .loop .inv .1, c .before .before .before .before .before .before .loop .inv .0 .before-row .most, c .before .before .before .before .before .before .before .before .before .pre .0 .0 .few)
-
-find-requires : tie.Need-find-requires Inv-loop μ-loop
-find-requires c κs = let w = c .before .before .before .before .before .before .loop .inv .0 in (slab-table (c .before .before .before .before .before .before .before .before .before .args .placing) (c .before .before .before .before .before .before .before .before .before .args .n) (c .before .before .before .before .before .before .before .before .before .args .t) (c .before .before .before .before .before .before .before .before .before .args .i) (c .before .before .before .before .before .before .before .before .before .args .s) (c .before .before .before .before .before .before .before .before .before .args .b .j) (c .before .before .before .before .before .before .before .before .before .args .b .k) (c .before .before .before .before .before .before .before .before .before .args .records .now) (c .before .before .before .before .before .before .before .before .before .args .list .now) _ (c .before .before .before .before .before .before .before .before .before .pre .0 .0) (c .before .before .before .before .before .before .before .before .before .pre .1 .0 .0) (c .before .before .before .before .before .before .before .before .before .pre .1 .0 .1) (c .before .before .before .before .before .before .before .before .before .pre .1 .0 .2) (c .before .before .before .before .before .before .before .before .before .pre .1 .0 .3) (c .before .before .before .before .before .before .before .before .before .pre .1 .0 .4) (c .before .before .before .before .before .before .before .before .before .pre .1 .1 .1) _ _ _ _ w, row-behind (c .before .before .before .before .before .before .before .before .before .args .placing) (c .before .before .before .before .before .before .before .before .before .args .n) (c .before .before .before .before .before .before .before .before .before .args .t) (c .before .before .before .before .before .before .before .before .before .args .i) (c .before .before .before .before .before .before .before .before .before .args .s) (c .before .before .before .before .before .before .before .before .before .args .b .j) (c .before .before .before .before .before .before .before .before .before .args .b .k) (c .before .before .before .before .before .before .before .before .before .args .records .now) (c .before .before .before .before .before .before .before .before .before .args .list .now) _ (c .before .before .before .before .before .before .before .before .before .pre .0 .0) (c .before .before .before .before .before .before .before .before .before .pre .1 .0 .0) (c .before .before .before .before .before .before .before .before .before .pre .1 .0 .1) (c .before .before .before .before .before .before .before .before .before .pre .1 .0 .2) (c .before .before .before .before .before .before .before .before .before .pre .1 .0 .3) (c .before .before .before .before .before .before .before .before .before .pre .1 .0 .4) (c .before .before .before .before .before .before .before .before .before .pre .1 .1 .1) _ _ _ _ w (c .before .before .before .before .before .loop-test .taken) _ _ (c .before .before .key-of .ensures) (c .before .key-of2 .ensures))
-
-sub-gap : tie.Need-sub-gap Inv-loop μ-loop
-sub-gap c = c .find .ensures .2
-
-visit-row-requires : tie.Need-visit-row-requires Inv-loop μ-loop
-visit-row-requires c κs =
-    let p = c .before .before .before .before .before .before .before .before .before .before .before .before .pre in let w = c .before .before .before .before .before .before .before .before .before .loop .inv .0 in let f = c .before .before .find .ensures in let el = c .before .before .before .before .before .key-of .ensures in let eh = c .before .before .before .before .key-of2 .ensures in (
-      (slab-table (c .before .before .before .before .before .before .before .before .before .before .before .before .args .placing) (c .before .before .before .before .before .before .before .before .before .before .before .before .args .n) (c .before .before .before .before .before .before .before .before .before .before .before .before .args .t) (c .before .before .before .before .before .before .before .before .before .before .before .before .args .i) (c .before .before .before .before .before .before .before .before .before .before .before .before .args .s) (c .before .before .before .before .before .before .before .before .before .before .before .before .args .b .j) (c .before .before .before .before .before .before .before .before .before .before .before .before .args .b .k) (c .before .before .before .before .before .before .before .before .before .before .before .before .args .records .now) (c .before .before .before .before .before .before .before .before .before .before .before .before .args .list .now) _ (c .before .before .before .before .before .before .before .before .before .before .before .before .pre .0 .0) (c .before .before .before .before .before .before .before .before .before .before .before .before .pre .1 .0 .0) (c .before .before .before .before .before .before .before .before .before .before .before .before .pre .1 .0 .1) (c .before .before .before .before .before .before .before .before .before .before .before .before .pre .1 .0 .2) (c .before .before .before .before .before .before .before .before .before .before .before .before .pre .1 .0 .3) (c .before .before .before .before .before .before .before .before .before .before .before .before .pre .1 .0 .4) (c .before .before .before .before .before .before .before .before .before .before .before .before .pre .1 .1 .1) _ _ _ _ w, p .0 .1),
+visit-line-requires : tie.Need-visit-line-requires Inv-loop μ-loop
+visit-line-requires c κs =
+    let a = c .before .before .before .before .before .before .before .before .before .args in let p = c .before .before .before .before .before .before .before .before .before .pre in let q = p .1 .0 in let w = c .before .before .before .loop .inv in let l = c .before .before .loop-test .taken in let f = c .before .before .before .before .before .slice-along-j in let e = c .before .before .before .before .slice-along-k in
+    let r = slice-room (a .s) (p .0 .1) (a .b) (a .i) (f .result) (e .result) (f .ensures) (e .ensures) (a .placing) (a .n) (a .t) (a .records .now) _ (p .1 .1) in (
       (
-        (f .0, f .1),
-        (
-          row-room (c .before .before .before .before .before .before .before .before .before .before .before .before .args .placing) (c .before .before .before .before .before .before .before .before .before .before .before .before .args .n) (c .before .before .before .before .before .before .before .before .before .before .before .before .args .t) (c .before .before .before .before .before .before .before .before .before .before .before .before .args .i) (c .before .before .before .before .before .before .before .before .before .before .before .before .args .s) (c .before .before .before .before .before .before .before .before .before .before .before .before .args .b .j) (c .before .before .before .before .before .before .before .before .before .before .before .before .args .b .k) (c .before .before .before .before .before .before .before .before .before .before .before .before .args .records .now) (c .before .before .before .before .before .before .before .before .before .before .before .before .args .list .now) _ (c .before .before .before .before .before .before .before .before .before .before .before .before .pre .0 .0) (c .before .before .before .before .before .before .before .before .before .before .before .before .pre .1 .0 .0) (c .before .before .before .before .before .before .before .before .before .before .before .before .pre .1 .0 .1) (c .before .before .before .before .before .before .before .before .before .before .before .before .pre .1 .0 .2) (c .before .before .before .before .before .before .before .before .before .before .before .before .pre .1 .0 .3) (c .before .before .before .before .before .before .before .before .before .before .before .before .pre .1 .0 .4) (c .before .before .before .before .before .before .before .before .before .before .before .before .pre .1 .1 .1) _ _ _ _ w (c .before .before .before .before .before .before .before .before .loop-test .taken) _ _ el eh _ (visited-size _ _ _ _ _ _ _ (w .visits)),
-          omega (arith, el, eh, p .1 .0 .3),
-        ),
+        slab-table (a .placing) (a .n) (a .t) (a .i) (a .s) (f .result) (e .result) (a .records .now) (a .list .now) _ (p .0 .0) r _ _ _ w,
+        p .0 .1,
+        line-rest (a .s) (p .0 .1) (a .b) (a .i) (f .result) (e .result) (f .ensures) (e .ensures) (p .0 .2) (c .before .before .before .loop .j) (w .walk .low) l,
+      ),
+      (
+        (q .0, omega (arith, l, q .1, f .ensures .within), le-trans (e .ensures .within) (q .2), q .3),
+        row-room (a .placing) (a .n) (a .t) (a .i) (a .s) (f .result) (e .result) (a .records .now) (a .list .now) _ (p .0 .0) r _ _ _ w l _ (visited-size _ _ _ _ _ _ _ (w .visits)),
       ),
     )
 
+add-j : tie.Need-add-j Inv-loop μ-loop
+add-j c = omega (arith, c .before .before .before .before .before .before .before .loop-test .taken, c .before .before .before .before .before .before .before .before .before .before .before .before .before .before .pre .1 .0 .1, c .before .before .before .before .before .before .before .before .before .before .slice-along-j .ensures .within)
+
 loop-less : tie.Need-loop-less Inv-loop μ-loop
-loop-less c = omega (arith, c .before .before .before .before .before .before .before .before .before .before .before .before .before .loop-test .taken)
+loop-less c = omega (arith, c .before .before .before .before .before .before .before .loop-test .taken)
 
 loop-again : tie.Need-loop-again Inv-loop μ-loop
 loop-again c =
-    let w = c .before .before .before .before .before .before .before .before .before .before .before .before .before .before .loop .inv .0 in let f = c .before .before .before .before .before .before .before .find .ensures in (
-      slabbing-on (c .before .before .before .before .before .before .before .before .before .before .before .before .before .before .before .before .before .args .placing) (c .before .before .before .before .before .before .before .before .before .before .before .before .before .before .before .before .before .args .n) (c .before .before .before .before .before .before .before .before .before .before .before .before .before .before .before .before .before .args .t) (c .before .before .before .before .before .before .before .before .before .before .before .before .before .before .before .before .before .args .i) (c .before .before .before .before .before .before .before .before .before .before .before .before .before .before .before .before .before .args .s) (c .before .before .before .before .before .before .before .before .before .before .before .before .before .before .before .before .before .args .b .j) (c .before .before .before .before .before .before .before .before .before .before .before .before .before .before .before .before .before .args .b .k) (c .before .before .before .before .before .before .before .before .before .before .before .before .before .before .before .before .before .args .records .now) (c .before .before .before .before .before .before .before .before .before .before .before .before .before .before .before .before .before .args .list .now) _ (c .before .before .before .before .before .before .before .before .before .before .before .before .before .before .before .before .before .pre .0 .0) (c .before .before .before .before .before .before .before .before .before .before .before .before .before .before .before .before .before .pre .1 .0 .0) (c .before .before .before .before .before .before .before .before .before .before .before .before .before .before .before .before .before .pre .1 .0 .1) (c .before .before .before .before .before .before .before .before .before .before .before .before .before .before .before .before .before .pre .1 .0 .2) (c .before .before .before .before .before .before .before .before .before .before .before .before .before .before .before .before .before .pre .1 .0 .3) (c .before .before .before .before .before .before .before .before .before .before .before .before .before .before .before .before .before .pre .1 .0 .4) (c .before .before .before .before .before .before .before .before .before .before .before .before .before .before .before .before .before .pre .1 .1 .1) _ _ _ _ w (c .before .before .before .before .before .before .before .before .before .before .before .before .before .loop-test .taken) _ _ (c .before .before .before .before .before .before .before .before .before .before .key-of .ensures) (c .before .before .before .before .before .before .before .before .before .key-of2 .ensures) _ _ _ (c .before .before .before .before .visit-row .ensures .0) (c .before .before .before .before .visit-row .ensures .1),
-      omega (arith, f .0 .most, c .before .before .before .before .before .before .before .before .before .before .before .before .before .before .before .before .before .pre .0 .0 .few),
-    )
-
-loop-less-2 : tie.Need-loop-less-2 Inv-loop μ-loop
-loop-less-2 c = omega (arith, c .before .before .loop-test .taken)
-
-loop-again-2 : tie.Need-loop-again-2 Inv-loop μ-loop
-loop-again-2 c =
-    let a = c .before .before .before .before .before .before .args in let w = c .before .before .before .loop .inv in
-    (slabbing-skip (a .placing) (a .n) (a .t) (a .i) (a .s) (a .b .j) (a .b .k) (a .records .now) (a .list .now) _ _ _ _ (c .before .before .before .before .before .before .pre .0 .1) (sym (c .before .row-within .ensures) ∙ c .if1 .left) (c .before .before .loop-test .taken) (w .0), w .1)
+    let a = c .before .before .before .before .before .before .before .before .before .before .before .before .before .before .args in let p = c .before .before .before .before .before .before .before .before .before .before .before .before .before .before .pre in let f = c .before .before .before .before .before .before .before .before .before .before .slice-along-j in let e = c .before .before .before .before .before .before .before .before .before .slice-along-k in
+    slabbing-on (a .placing) (a .n) (a .t) (a .i) (a .s) (f .result) (e .result) (a .records .now) (a .list .now) _ (p .0 .0)
+    (slice-room (a .s) (p .0 .1) (a .b) (a .i) (f .result) (e .result) (f .ensures) (e .ensures) (a .placing) (a .n) (a .t) (a .records .now) _ (p .1 .1))
+    _ _ _ (c .before .before .before .before .before .before .before .before .loop .inv) (c .before .before .before .before .before .before .before .loop-test .taken) _ _ (c .before .before .before .before .visit-line .ensures)
 
 same-length : tie.Need-same-length Inv-loop μ-loop
-same-length c = c .before .loop .inv .0 .visits .bumped .size
+same-length c = c .before .loop .inv .visits .bumped .size
 
 same-length-2 : tie.Need-same-length-2 Inv-loop μ-loop
-same-length-2 c = visited-size _ _ _ _ _ _ _ (c .before .loop .inv .0 .visits)
+same-length-2 c = visited-size _ _ _ _ _ _ _ (c .before .loop .inv .visits)
 
 returns : tie.Need-returns Inv-loop μ-loop
-returns c = let w = c .before .loop .inv .0 in (slabbing-done (c .before .before .before .before .args .placing) (c .before .before .before .before .args .n) (c .before .before .before .before .args .t) (c .before .before .before .before .args .i) (c .before .before .before .before .args .s) (c .before .before .before .before .args .b .j) (c .before .before .before .before .args .b .k) (c .before .before .before .before .args .records .now) (c .before .before .before .before .args .list .now) _ (c .before .before .before .before .pre .0 .0) (c .before .before .before .before .pre .1 .0 .0) (c .before .before .before .before .pre .1 .0 .1) (c .before .before .before .before .pre .1 .0 .2) (c .before .before .before .before .pre .1 .0 .3) (c .before .before .before .before .pre .1 .0 .4) (c .before .before .before .before .pre .1 .1 .1) _ _ _ _ w (c .loop-test .left), w .before-slab)
+returns c =
+    let a = c .before .before .before .before .before .before .before .args in let p = c .before .before .before .before .before .before .before .pre in let f = c .before .before .before .slice-along-j in let e = c .before .before .slice-along-k in
+    slice-done (a .s) (p .0 .1) (a .b) (a .i) (f .result) (e .result) (f .ensures) (e .ensures) (a .placing) (a .n) (a .t) (a .records .now) _ _ _
+    (slabbing-done (a .placing) (a .n) (a .t) (a .i) (a .s) (f .result) (e .result) (a .records .now) (a .list .now) _ (p .0 .0)
+    (slice-room (a .s) (p .0 .1) (a .b) (a .i) (f .result) (e .result) (f .ensures) (e .ensures) (a .placing) (a .n) (a .t) (a .records .now) _ (p .1 .1))
+    _ _ _ (c .before .loop .inv) (c .loop-test .left))
 
 pub visit-slab-spec : {M : Type 1} → statement M
 visit-slab-spec =
@@ -83,19 +73,13 @@ visit-slab-spec =
     (tie.spec
     Inv-loop
     μ-loop
+    slice-along-j-requires
+    slice-along-k-requires
     loop-holds
+    visit-line-requires
     add-j
-    row-within-requires
-    key-of-requires
-    key-of-requires-2
-    add-find
-    find-requires
-    sub-gap
-    visit-row-requires
     loop-less
     loop-again
-    loop-less-2
-    loop-again-2
     same-length
     same-length-2
     returns)

@@ -10,20 +10,20 @@ use Rattle.marking.specs.Marked.{hits}
 use Rattle.marking.specs.Painted.{leftIn}
 use Rattle.rows.specs.Rows.{gets}
 use Rattle.rows.proofs.Visiting.{visited-same, visited-size, gets-same}
-use Rattle.visits.proofs.Sweeping.{room-same, held-ends}
+use Rattle.visits.proofs.Sweeping.{room-same}
 
 sweep-of-requires : tie.Need-sweep-of-requires
-sweep-of-requires c κs = (c .before .before .before .before .pre .0 .1, c .before .before .before .before .pre .1 .0)
+sweep-of-requires c κs = (c .before .before .before .before .before .pre .0 .1, c .before .before .before .before .before .pre .1 .0)
 
 cast-visit-block : tie.Need-cast-visit-block
-cast-visit-block c = let p = c .before .before .before .before .before .before .before .pre .1 .0 in omega (arith, p .1, p .0 .few, div-add-mod (length (c .before .before .before .before .before .before .before .args .ts .now)) 3)
+cast-visit-block c = let p = c .before .before .before .before .before .before .before .before .pre .1 .0 in omega (arith, p .1, p .0 .few, div-add-mod (length (c .before .before .before .before .before .before .before .before .args .ts .now)) 3)
 
 visit-block-requires : tie.Need-visit-block-requires
 visit-block-requires c κs =
-    let a = c .before .before .before .before .before .before .before .args in let p = c .before .before .before .before .before .before .before .pre in let w = c .before .before .sweep-of .ensures in let s = p .0 .1 in let e = held-ends _ (w .some) (omega (arith, w .some-in .j-in, s .axis1 .most)) (w .some-held) in (
-      (p .0 .0, w .fit),
+    let a = c .before .before .before .before .before .before .before .before .args in let p = c .before .before .before .before .before .before .before .before .pre in let w = c .before .before .sweep-of .ensures in let s = p .0 .1 in (
+      (p .0 .0, w .fit, w .axial),
       (
-        (omega (arith, w .i-in, s .axis0 .most), e .0, omega (arith, w .j-in, s .axis1 .most), e .1, omega (arith, w .k-in, s .axis2 .most)),
+        (omega (arith, w .i-in, s .axis0 .most), omega (arith, w .j-in, s .axis1 .most), omega (arith, w .k-in, s .axis2 .most), p .0 .2),
         room-same (a .placing) (a .n) (gets (a .t) (hits (a .ps .now) (a .ts .now) (a .r) (a .at) (a .t)) (a .records .now)) (gets (a .t) (leftIn (c .before .before .sweep-of .result .block) (c .before .before .sweep-of .result .slabs)) (a .records .now)) (a .records .now) _
             (λ x l. gets-same (a .t) (hits (a .ps .now) (a .ts .now) (a .r) (a .at) (a .t)) (leftIn (c .before .before .sweep-of .result .block) (c .before .before .sweep-of .result .slabs)) (a .records .now) x (sym (w .cells (recordAt (a .records .now) x .cell)))) (p .1 .1),
       ),
@@ -37,7 +37,7 @@ same-length-2 c = visited-size _ _ _ _ _ _ _ (c .before .before .before .before 
 
 returns : tie.Need-returns
 returns c =
-    let a = c .before .before .before .before .before .before .before .before .before .before .before .before .args in let w = c .before .before .before .before .before .before .before .sweep-of .ensures in
+    let a = c .before .before .before .before .before .before .before .before .before .before .before .before .before .args in let w = c .before .before .before .before .before .before .before .sweep-of .ensures in
     visited-same (a .n) (a .placing) (gets (a .t) (leftIn (c .before .before .before .before .before .before .before .sweep-of .result .block) (c .before .before .before .before .before .before .before .sweep-of .result .slabs)) (a .records .now)) (gets (a .t) (hits (a .ps .now) (a .ts .now) (a .r) (a .at) (a .t)) (a .records .now)) _ _ _ _
     (λ x l. gets-same (a .t) (leftIn (c .before .before .before .before .before .before .before .sweep-of .result .block) (c .before .before .before .before .before .before .before .sweep-of .result .slabs)) (hits (a .ps .now) (a .ts .now) (a .r) (a .at) (a .t)) (a .records .now) x (w .cells (recordAt (a .records .now) x .cell))) (c .before .before .before .before .visit-block .ensures)
 
