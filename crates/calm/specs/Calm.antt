@@ -38,11 +38,12 @@ pub record InRows (first end j from to : ℕ) (c : Cell) : Type 0 where
   pub k-least : from ≤ c .k
   pub k-most : c .k < to
 
--- these slabs are all of a block of the table, and there is one
+-- these slabs are all of a block of the table and of no other, and there is one
 pub record Blocked (r : Axes) (first end : ℕ) : Type 0 where
   pub some : first < end
   pub most : end ≤ r .r0
   pub whole : (i : ℕ) → i < r .r0 → (i + 15) / 16 ≡ (first + 15) / 16 → (first ≤ i) × (i < end)
+  pub one : (i : ℕ) → first ≤ i → i < end → (i + 15) / 16 ≡ (first + 15) / 16
 
 -- and these rows all of a group of it
 pub record Grouped (r : Axes) (first end from to : ℕ) : Type 0 where

@@ -65,20 +65,6 @@ fn acts(l: &[u8], p: Phase, r: Axes, c: Cell, n: usize) -> bool
     of_i | of_j | of_k
 }
 
-// Whether a visit of a cell with this label changes nothing.
-fn is_idle(p: Phase, label: u8) -> bool
-    ensures { λ b. ⌜ (b ≡ true → (label ≡ p .todo → ⊥) × (isWalker (p .walkers) label ≡ false)) ⌝ }
-{
-    if label == p.todo {
-        return false;
-    }
-    let walkers = p.walkers;
-    if spread::is_walker(walkers, label) {
-        return false;
-    }
-    true
-}
-
 // What came of a part of a block: how many cells are walked by then, and whether one of it may act.
 struct Calmed {
     walked: usize,
@@ -118,7 +104,7 @@ fn calm_cells(
         i += 1;
         n += 1;
         let v = l[at];
-        if is_idle(p, v) {
+        if spread::is_idle(p, v) {
             continue;
         }
         if acts(l, p, r, c, at) {

@@ -1,17 +1,19 @@
 -- Laws of specs/Flags.antt: what a table that covers all that may act says of a group that is not raised, and what keeps it so. Assumes nothing.
-use mathlib.Core.Bool.{true, true≢false}
+use mathlib.Core.Bool.{Bool, true, false, not, _||_, true≢false}
 use mathlib.Core.Logic.{_⊎_, inl, inr}
 use mathlib.Core.Path.{_≡_, refl, sym, ap, subst, _∙_}
 use mathlib.Core.List.{List}
 use Prim.Native.Nat.{ℕ, _+_, _*_, _-_, _≤_, _<_}
 use native.Mathlib.Nat.{add-mul, one-mul}
 use native.Mathlib.Omega.{arith}
+use lib.Dec.{T, eqb, eqb→eq}
 use lib.ListN.{length, getD, set, replicate, length-set, length-replicate, getD-replicate}
 use lib.Seq.{getD-set-same, getD-set-other}
 use Rattle.grid.specs.declared.Axes.{Axes}
 use Rattle.grid.specs.declared.Cell.{Cell}
 use Rattle.grid.specs.Grid.{num, cells, InGrid, Sound, at}
 use Rattle.grid.proofs.Cells.{dec-eq, num-inj}
+use Rattle.grid.proofs.Checks.{or-false, not-false}
 use Rattle.spread.specs.declared.Phase.{Phase}
 use Rattle.spread.specs.Scan.{isWalker}
 use Rattle.spread.specs.Quiet.{Clear, Still, Quiet, Settled, Hushed, On, on, Near, Swept}
@@ -219,3 +221,28 @@ module _ (from stride count : ℕ) (t₀ : List ℕ) where
     where
       less : (s : ℕ) → s < count - (left - 1) → (s ≡ count - left → ⊥) → s < count - left
       less s u z = omega (arith, a .most)
+
+-- ---- a loop that looks at n bytes from `first` on
+
+pub record Lying (t : List ℕ) (first : ℕ) (some : Bool) (n : ℕ) : Type 0 where
+  pub most : n ≤ 4096
+  pub none : some ≡ false → (x : ℕ) → x < n → getD t (first + x) 0 ≡ 0
+
+pub lying-none : (t : List ℕ) (first : ℕ) → Lying t first false 0
+lying-none t first = record { most = omega arith; none = λ e x h. absurd (omega arith) }
+
+pub lying-more : (t : List ℕ) (first : ℕ) (some : Bool) (n : ℕ) → n < 4096 → Lying t first some n → Lying t first (some || not (eqb (getD t (first + n) 0) 0)) (n + 1)
+lying-more t first some n h a = record {
+  most = omega arith;
+  none = λ e x g.
+      let q = or-false some (not (eqb (getD t (first + n) 0) 0)) e in
+      dec-eq x n
+      (λ u. ap (λ (y : ℕ). getD t (first + y) 0) u ∙ zero-is (getD t (first + n) 0) (not-false (eqb (getD t (first + n) 0) 0) (q .1)))
+      (λ u. a .none (q .0) x (less x n g u));
+}
+  where
+    zero-is : (v : ℕ) → eqb v 0 ≡ true → v ≡ 0
+    zero-is v e = eqb→eq v 0 (subst T (sym e) tt)
+
+    less : (x n : ℕ) → x < n + 1 → (x ≡ n → ⊥) → x < n
+    less x n g u = omega arith

@@ -1,9 +1,10 @@
 // Which cells a scan must visit: a table with a byte for each group of cells, 16 along i and 16 along k, that
 // is not 0 where a cell of the group may act. The cells with i = 0 make groups of their own, since walks from
 // there go far, and the groups after them end where a walk of 64 cells does.
+ghost use mathlib.Core.Bool.{false};
 ghost use mathlib.Core.Path.{_≡_};
 ghost use Prim.Native.Nat.{ℕ, _+_, _*_, _≤_, _<_};
-ghost use lib.ListN.{length};
+ghost use lib.ListN.{length, getD};
 ghost use Rattle.flags.specs.Flags.{tableLength, placeAt, Up, Raises};
 
 pub const LENGTH: usize = 69632;
@@ -58,4 +59,19 @@ pub fn raise_k(t: &mut [u8], i: usize, j: usize, low: usize, high: usize)
 {
     let n = place(i, j, low);
     raise(t, n, 256, high / 16 - low / 16 + 1);
+}
+
+// Whether a group of the block of slab i is raised.
+pub fn some_raised(t: &[u8], i: usize) -> bool
+    requires { ⌜ (length (now t) ≡ tableLength) × (i < 256) ⌝ }
+    ensures { λ b. ⌜ (b ≡ false → (j k : ℕ) → j < 256 → k < 256 → getD (now (t .entry)) (placeAt i j k) 0 ≡ 0) ⌝ }
+{
+    let first = place(i, 0, 0);
+    let mut some = false;
+    let mut n = 0usize;
+    while n < 4096 {
+        some = some | (t[first + n] != 0);
+        n += 1;
+    }
+    some
 }

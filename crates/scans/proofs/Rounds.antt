@@ -1,4 +1,5 @@
 -- What the loops of `scans` go by: groups of a row that are not raised change nothing, and slabs end as they would have where cells were set before their turn. Assumes nothing.
+use mathlib.Core.Bool.{Bool, true, false, not}
 use mathlib.Core.Path.{_≡_, refl, sym, ap, subst, _∙_}
 use mathlib.Core.List.{List}
 use Prim.Native.Nat.{ℕ, _+_, _*_, _-_, _/_, _≤_, _<_, min}
@@ -10,7 +11,7 @@ use Rattle.grid.specs.declared.Cell.{Cell}
 use Rattle.grid.specs.Grid.{InGrid, Sheet}
 use Rattle.grid.proofs.Cells.{sheet-kept}
 use Rattle.spread.specs.declared.Phase.{Phase}
-use Rattle.spread.specs.Scan.{State, visited, inTurn, slabbed, scanned}
+use Rattle.spread.specs.Scan.{State, visited, inTurn, rowed, slabbed, scanned}
 use Rattle.spread.proofs.Turns.{Turns, turn-parts, turn-idle, turns-none, turns-on, turns-pass, turns-all}
 use Rattle.spread.proofs.Quiets.{settled-visit}
 use Rattle.flags.specs.Flags.{placeAt, Covers}
@@ -79,10 +80,13 @@ module _ (p : Phase) (r : Axes) (l₀ t₀ : List ℕ) where
 
   -- there are 17 blocks at most, and they are those of the table
   pub scanning-block : {l t : List ℕ} {w first b end : ℕ} → Scanning p r l₀ t₀ l t w first b → first < r .r0 → end ≡ min (16 * b + 1) (r .r0) → Blocked r first end
-  scanning-block {first = first} {b = b} {end = end} a h e = record { some = omega (arith, a .starts); most = omega arith; whole = λ i g q. whole i g q }
+  scanning-block {first = first} {b = b} {end = end} a h e = record { some = omega (arith, a .starts); most = omega arith; whole = λ i g q. whole i g q; one = λ i g q. one i g q }
     where
       whole : (i : ℕ) → i < r .r0 → (i + 15) / 16 ≡ (first + 15) / 16 → (first ≤ i) × (i < end)
       whole i g q = (omega (arith, a .starts), omega (arith, a .starts))
+
+      one : (i : ℕ) → first ≤ i → i < end → (i + 15) / 16 ≡ (first + 15) / 16
+      one i g q = omega (arith, a .starts)
 
   pub scanning-few : {l t : List ℕ} {w first b : ℕ} → Scanning p r l₀ t₀ l t w first b → first < r .r0 → b ≤ 16
   scanning-few a h = omega (arith, a .starts, a .sheet .sound .axis0 .most)
@@ -103,3 +107,25 @@ module _ (p : Phase) (r : Axes) (l₀ t₀ : List ℕ) where
 
   pub scanning-all : {l t : List ℕ} {w first b : ℕ} → Scanning p r l₀ t₀ l t w first b → r .r0 ≤ first → record { labels = l; walked = w } ≡ scanned p r l₀
   scanning-all {l = l} {w = w} {first = first} a h = sym (turn-idle (λ i. slabbed p r i) first (r .r0) (record { labels = l; walked = w }) (λ x y z. absurd (omega arith))) ∙ a .rest
+
+-- ---- a block of which no group is raised changes nothing
+
+pub block-low : (p : Phase) (r : Axes) (l t : List ℕ) (w first end : ℕ) → Sheet r l → Covers p r l t → Blocked r first end → ((j k : ℕ) → j < 256 → k < 256 → getD t (placeAt first j k) 0 ≡ 0)
+    → (i : ℕ) → first ≤ i → i < end → (i + 15) / 16 ≡ (first + 15) / 16 → slabbed p r i (record { labels = l; walked = w }) ≡ record { labels = l; walked = w }
+block-low p r l t w first end s v b z i g h e =
+    still (λ j. rowed p r i j) (r .r1)
+    (λ j u. still (λ k. visited p r (record { i = i; j = j; k = k })) (r .r2)
+    (λ k y.
+    let d : Cell = record { i = i; j = j; k = k } in
+    settled-visit p r d (record { labels = l; walked = w }) (low-settled p r l t d (record { i-in = omega (arith, b .most); j-in = u; k-in = y }) v (ap (λ (x : ℕ). getD t ((x * 16 + k / 16) * 256 + j) 0) e ∙ z j k (omega (arith, s .sound .axis1 .most)) (omega (arith, s .sound .axis2 .most))))))
+  where
+    still : (f : ℕ → State → State) (n : ℕ) → ((x : ℕ) → x < n → f x (record { labels = l; walked = w }) ≡ record { labels = l; walked = w }) → inTurn f n 0 (record { labels = l; walked = w }) ≡ record { labels = l; walked = w }
+    still f n k = sym (ap (λ (m : ℕ). inTurn f m 0 (record { labels = l; walked = w })) (sub-zero n)) ∙ turn-idle f 0 n (record { labels = l; walked = w }) (λ x a c. k x c)
+
+pub slabs-low : (p : Phase) (r : Axes) (l t : List ℕ) (w first end : ℕ) → Sheet r l → Covers p r l t → Blocked r first end → ((j k : ℕ) → j < 256 → k < 256 → getD t (placeAt first j k) 0 ≡ 0)
+    → record { labels = l; walked = w } ≡ inTurn (λ i. slabbed p r i) (end - first) first (record { labels = l; walked = w })
+slabs-low p r l t w first end s v b z = sym (turn-idle (λ i. slabbed p r i) first end (record { labels = l; walked = w }) (λ i g h. block-low p r l t w first end s v b z i g h (b .one i g h)))
+
+pub not-true : (b : Bool) → not b ≡ true → b ≡ false
+not-true true e = sym e
+not-true false e = refl

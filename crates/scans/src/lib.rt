@@ -73,7 +73,7 @@ fn slabs(
     walked
 }
 
-// The slabs of a block: those from `first` up to, not including, `end`.
+// The slabs of a block, those from `first` up to, not including, `end`; where no group of it is raised there is nothing to do.
 fn block(
     l: &mut [u8],
     t: &mut [u8],
@@ -88,7 +88,13 @@ fn block(
     ensures { λ n. ⌜ record { labels = now (l .exit); walked = n } ≡ inTurn (λ i. slabbed p r i) (end - first) first (record { labels = now (l .entry); walked = before }) ⌝ }
     ensures { λ n. ⌜ (n ≤ before + 33554432) × Covers p r (now (l .exit)) (now (t .exit)) ⌝ }
 {
+    if !flags::some_raised(t, first) {
+        return before;
+    }
     let walked = calm::calm(l, t, p, r, first, end, before);
+    if !flags::some_raised(t, first) {
+        return walked;
+    }
     slabs(l, t, p, r, first, end, walked)
 }
 

@@ -1,5 +1,6 @@
 // The walks of a fill, and what a phase of it is: scans over the whole grid, cell by cell and walk by walk,
 // until a scan walked none. The crate `scans` runs one.
+ghost use mathlib.Core.Bool.{true, false};
 ghost use mathlib.Core.Path.{_≡_};
 ghost use Prim.Native.Nat.{_+_, _≤_, _<_, min};
 ghost use lib.ListN.{length};
@@ -81,4 +82,18 @@ pub fn is_walker(w: Walkers, label: u8) -> bool
         Walkers::Nobody => false,
         Walkers::Those(s) => label == s,
     }
+}
+
+// Whether a visit of a cell with this label changes nothing.
+pub fn is_idle(p: Phase, label: u8) -> bool
+    ensures { λ b. ⌜ (b ≡ true → (label ≡ p .todo → ⊥) × (isWalker (p .walkers) label ≡ false)) ⌝ }
+{
+    if label == p.todo {
+        return false;
+    }
+    let walkers = p.walkers;
+    if is_walker(walkers, label) {
+        return false;
+    }
+    true
 }

@@ -115,9 +115,14 @@ pub fn visit_part(
     let mut at = i + j * r.r0 + from * layer;
     let mut k = from;
     while k < to {
-        walked = visit(l, t, p, r, Cell { i, j, k }, at, walked);
+        let c = Cell { i, j, k };
+        let n = at;
         at += layer;
         k += 1;
+        if spread::is_idle(p, l[n]) {
+            continue;
+        }
+        walked = visit(l, t, p, r, c, n, walked);
     }
     walked
 }

@@ -1,14 +1,16 @@
 -- `turns::visit_part` meets its contract: a visit in each turn (`Turns`), at the number of the turn's cell. Assumes nothing.
-use mathlib.Core.Path.{_≡_, refl, _∙_}
+use mathlib.Core.Bool.{false}
+use mathlib.Core.Path.{_≡_, refl, sym, subst, _∙_}
 use Prim.Native.Nat.{ℕ, _+_, _*_, _-_, _≤_, _<_}
 use native.Mathlib.Nat.{add-mul, one-mul, mul-le-mul}
 use native.Mathlib.Omega.{arith}
-use lib.ListN.{length}
+use lib.ListN.{length, getD}
 use Rattle.grid.specs.declared.Axes.{Axes}
-use Rattle.grid.specs.Grid.{Sound}
-use Rattle.grid.proofs.Cells.{Terms, terms}
-use Rattle.spread.specs.Scan.{visited}
-use Rattle.spread.proofs.Turns.{Turns, turns-none, turns-more, turns-all}
+use Rattle.grid.specs.declared.Cell.{Cell}
+use Rattle.grid.specs.Grid.{Sound, InGrid}
+use Rattle.grid.proofs.Cells.{Terms, terms, num-lt}
+use Rattle.spread.specs.Scan.{isWalker, visited}
+use Rattle.spread.proofs.Turns.{Turns, visit-none, turns-none, turns-more, turns-all}
 use Rattle.flags.specs.Flags.{Covers}
 use Rattle.turns.proofs.visit_part.Statement.{statement}
 use Rattle.turns.proofs.visit_part.Tie as tie
@@ -33,6 +35,16 @@ layers c k h = mul-le-mul (small (c .pre .0 .0 .sound .axis2 .most) (c .pre .1 .
     small : {a b d : ℕ} → a ≤ 256 → b ≤ a → d ≤ b → d ≤ 256
     small x y z = omega arith
 
+-- the cell of this turn
+abbrev cell-of : tie.In-loop Inv-loop μ-loop → Cell
+cell-of c = record { i = c .before .before .before .before .before .before .args .i; j = c .before .before .before .before .before .before .args .j; k = c .before .loop .k }
+
+in-grid : (c : tie.In-loop Inv-loop μ-loop) → InGrid (c .before .before .before .before .before .before .args .r) (cell-of c)
+in-grid c = record { i-in = c .before .before .before .before .before .before .pre .1 .0; j-in = c .before .before .before .before .before .before .pre .1 .1; k-in = omega (arith, c .loop-test .taken, c .before .before .before .before .before .before .pre .1 .3) }
+
+within : (c : tie.In-loop Inv-loop μ-loop) → c .before .loop .at < length (c .before .loop .l)
+within c = omega (arith, num-lt (c .before .before .before .before .before .before .args .r) (cell-of c) (in-grid c), c .before .loop .inv .1, c .before .loop .inv .0 .sheet .size)
+
 mul-layer : tie.Need-mul-layer Inv-loop μ-loop
 mul-layer c = omega (arith, of-row (c .before .before .before) .r01)
 
@@ -51,29 +63,49 @@ add-at-2 c = omega (arith, layers (c .before .before .before .before) (c .before
 loop-holds : tie.Need-loop-holds Inv-loop μ-loop
 loop-holds c = (turns-none _ _ _ _ _ _ _ (c .before .before .before .before .pre .1 .2) (c .before .before .before .before .pre .0 .0), refl, c .before .before .before .before .pre .0 .2, refl)
 
-visit-requires : tie.Need-visit-requires Inv-loop μ-loop
-visit-requires c κs =
-    let a = c .before .before .before .before .before .before .before .before in
-    let t = c .before .before .before .loop .inv .0 in
-    ((t .sheet, a .pre .0 .1, c .before .before .before .loop .inv .2), (record { i-in = a .pre .1 .0; j-in = a .pre .1 .1; k-in = omega (arith, c .before .before .loop-test .taken, a .pre .1 .3) }, c .before .before .before .loop .inv .1, omega (arith, t .few, t .at-most, t .sheet .sound .axis2 .most, a .pre .1 .3, a .pre .1 .4)))
-
 add-at-3 : tie.Need-add-at-3 Inv-loop μ-loop
-add-at-3 c = omega (arith, c .before .before .before .before .before .before .before .before .loop .inv .1, layers (c .before .before .before .before .before .before .before .before .before .before .before .before .before) (c .before .before .before .before .before .before .before .before .loop .k) (c .before .before .before .before .before .before .before .before .loop .inv .0 .at-most), of-row (c .before .before .before .before .before .before .before .before .before .before .before .before .before) .jr0, of-row (c .before .before .before .before .before .before .before .before .before .before .before .before .before) .r01, c .before .before .before .before .before .before .before .before .before .before .before .before .before .pre .0 .0 .sound .axis0 .most, c .before .before .before .before .before .before .before .before .before .before .before .before .before .pre .1 .0)
+add-at-3 c = omega (arith, c .before .loop .inv .1, layers (c .before .before .before .before .before .before) (c .before .loop .k) (c .before .loop .inv .0 .at-most), of-row (c .before .before .before .before .before .before) .jr0, of-row (c .before .before .before .before .before .before) .r01, c .before .before .before .before .before .before .pre .0 .0 .sound .axis0 .most, c .before .before .before .before .before .before .pre .1 .0)
 
 add-k : tie.Need-add-k Inv-loop μ-loop
-add-k c = omega (arith, c .before .before .before .before .before .before .before .before .loop .inv .0 .at-most, c .before .before .before .before .before .before .before .before .before .before .before .before .before .pre .1 .3, c .before .before .before .before .before .before .before .before .before .before .before .before .before .pre .0 .0 .sound .axis2 .most)
+add-k c = omega (arith, c .before .loop .inv .0 .at-most, c .before .before .before .before .before .before .pre .1 .3, c .before .before .before .before .before .before .pre .0 .0 .sound .axis2 .most)
+
+slice-read-is-idle : tie.Need-slice-read-is-idle Inv-loop μ-loop
+slice-read-is-idle c = within (c .before)
+
+is-idle-requires : tie.Need-is-idle-requires Inv-loop μ-loop
+is-idle-requires c κs = tt
 
 loop-less : tie.Need-loop-less Inv-loop μ-loop
-loop-less c = omega (arith, c .before .before .before .before .before .before .before .loop-test .taken)
+loop-less c = omega (arith, c .before .before .before .loop-test .taken)
 
 loop-again : tie.Need-loop-again Inv-loop μ-loop
 loop-again c =
-    let a = c .before .before .before .before .before .before .before .before .before .before .before .before .before .args in
-    let k = c .before .before .before .before .before .before .before .before .loop .k in (
-      turns-more _ _ _ _ _ _ _ _ _ _ _ _ (c .before .before .before .before .before .before .before .before .loop .inv .0) (c .before .before .before .before .before .before .before .loop-test .taken) (c .before .before .before .before .visit .kept .0) (c .before .before .before .before .visit .ensures .1 .0) (c .before .before .before .before .visit .ensures .0),
-      omega (arith, c .before .before .before .before .before .before .before .before .loop .inv .1, add-mul k 1 (a .r .r0 * a .r .r1), one-mul (a .r .r0 * a .r .r1)),
+    let a = c .before .before .before .before .before .before .before .before .before .args in
+    let i = c .before .before .before .before .loop .inv in
+    let s = c .before .is-idle .ensures (c .if1 .taken) in (
+      turns-more _ _ _ _ _ _ _ _ _ _ _ _ (i .0) (c .before .before .before .loop-test .taken) refl (omega arith) (sym (visit-none (a .p) (a .r) (cell-of (c .before .before .before)) (c .before .before .before .before .loop .l) (c .before .before .before .before .loop .walked) (subst (λ (q : ℕ). getD (c .before .before .before .before .loop .l) q 0 ≡ a .p .todo → ⊥) (i .1) (s .0)) (subst (λ (q : ℕ). isWalker (a .p .walkers) (getD (c .before .before .before .before .loop .l) q 0) ≡ false) (i .1) (s .1)))),
+      omega (arith, i .1, add-mul (c .before .before .before .before .loop .k) 1 (a .r .r0 * a .r .r1), one-mul (a .r .r0 * a .r .r1)),
+      i .2,
+      i .3,
+    )
+
+visit-requires : tie.Need-visit-requires Inv-loop μ-loop
+visit-requires c κs =
+    let a = c .before .before .before .before .before .before .before .before .before .before .before in
+    let t = c .before .before .before .before .before .before .loop .inv .0 in
+    ((t .sheet, a .pre .0 .1, c .before .before .before .before .before .before .loop .inv .2), (in-grid (c .before .before .before .before .before), c .before .before .before .before .before .before .loop .inv .1, omega (arith, t .few, t .at-most, t .sheet .sound .axis2 .most, a .pre .1 .3, a .pre .1 .4)))
+
+loop-less-2 : tie.Need-loop-less-2 Inv-loop μ-loop
+loop-less-2 c = omega (arith, c .before .before .before .before .before .before .before .before .before .before .loop-test .taken)
+
+loop-again-2 : tie.Need-loop-again-2 Inv-loop μ-loop
+loop-again-2 c =
+    let a = c .before .before .before .before .before .before .before .before .before .before .before .before .before .before .before .before .args in
+    let k = c .before .before .before .before .before .before .before .before .before .before .before .loop .k in (
+      turns-more _ _ _ _ _ _ _ _ _ _ _ _ (c .before .before .before .before .before .before .before .before .before .before .before .loop .inv .0) (c .before .before .before .before .before .before .before .before .before .before .loop-test .taken) (c .before .before .before .before .visit .kept .0) (c .before .before .before .before .visit .ensures .1 .0) (c .before .before .before .before .visit .ensures .0),
+      omega (arith, c .before .before .before .before .before .before .before .before .before .before .before .loop .inv .1, add-mul k 1 (a .r .r0 * a .r .r1), one-mul (a .r .r0 * a .r .r1)),
       c .before .before .before .before .visit .ensures .1 .1,
-      c .before .before .before .before .visit .kept .1 .0 ∙ c .before .before .before .before .before .before .before .before .loop .inv .3,
+      c .before .before .before .before .visit .kept .1 .0 ∙ c .before .before .before .before .before .before .before .before .before .before .before .loop .inv .3,
     )
 
 same-length : tie.Need-same-length Inv-loop μ-loop
@@ -97,11 +129,15 @@ visit-part-spec =
     mul-at-2
     add-at-2
     loop-holds
-    visit-requires
     add-at-3
     add-k
+    slice-read-is-idle
+    is-idle-requires
     loop-less
     loop-again
+    visit-requires
+    loop-less-2
+    loop-again-2
     same-length
     same-length-2
     returns)

@@ -1,9 +1,9 @@
--- `calm::is_idle` meets its contract. Assumes nothing.
+-- `spread::is_idle` meets its contract. Assumes nothing.
 use mathlib.Core.Bool.{true≢false}
 use mathlib.Core.Path.{sym, _∙_}
 use borrow.Author.Needs.{needs}
-use Rattle.calm.proofs.is_idle.Statement.{statement}
-use Rattle.calm.proofs.is_idle.Tie as tie
+use Rattle.spread.proofs.is_idle.Statement.{statement}
+use Rattle.spread.proofs.is_idle.Tie as tie
 
 returns : tie.Need-returns
 returns c = λ e. absurd (true≢false (sym e))
