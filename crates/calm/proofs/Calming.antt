@@ -8,16 +8,16 @@ use native.Mathlib.Omega.{arith}
 use lib.ListN.{length, set, length-set}
 use Rattle.grid.specs.declared.Axes.{Axes}
 use Rattle.grid.specs.declared.Cell.{Cell}
-use Rattle.grid.specs.Grid.{num, cells, InGrid, Sound, Sheet, at}
+use Rattle.grid.specs.Grid.{num, InGrid, Sound, Sheet, at}
 use Rattle.grid.proofs.Checks.{or-false}
 use Rattle.grid.proofs.Cells.{dec-eq, cell-path, num-lt, here, sheet-kept}
 use Rattle.spread.specs.declared.Phase.{Phase}
 use Rattle.spread.specs.Scan.{isWalker}
-use Rattle.spread.specs.Quiet.{Clear, Quiet, Settled, Hushed}
+use Rattle.spread.specs.Quiet.{Clear, Quiet, Settled}
 use Rattle.spread.proofs.Quiets.{sooner-same, hushed-settled, hushed-none, hushed-one, hushed-then}
 use Rattle.flags.specs.Flags.{placeAt, placeOf, Covers}
 use Rattle.flags.proofs.Cover.{covers-hushed, covers-lower, covers-raise, raises-set}
-use Rattle.calm.specs.Calm.{Calms, Resting, InRow, InRows, Blocked, Grouped}
+use Rattle.calm.specs.Calm.{Calms, Resting, InRow, InRows, Grouped}
 
 -- ---- a row, up to i
 

@@ -8,15 +8,15 @@ use native.Mathlib.Omega.{arith}
 use lib.Dec.{T, eqb, eqb→eq}
 use lib.ListN.{length, getD, set, length-set}
 use lib.Seq.{set-getD, getD-set-same, getD-set-other}
-use borrow.Author.Tests.{eq-eqb, ne-eqb}
+use borrow.Author.Tests.{eq-eqb}
 use Rattle.grid.specs.declared.Axes.{Axes}
 use Rattle.grid.specs.declared.Cell.{Cell}
-use Rattle.grid.specs.Grid.{num, InGrid, Sheet, at}
+use Rattle.grid.specs.Grid.{num, Sheet, at}
 use Rattle.grid.proofs.Cells.{dec-eq}
 use Rattle.grid.proofs.Checks.{or-false}
 use Rattle.spread.specs.declared.Phase.{Phase}
 use Rattle.spread.specs.Scan.{isWalker}
-use Rattle.spread.specs.Quiet.{Clear, Still, Quiet, Settled}
+use Rattle.spread.specs.Quiet.{Clear, Still, Quiet}
 use Rattle.spread.proofs.Quiets.{hushed-quiet}
 use Rattle.calm.specs.Calm.{stepIf, Resting, InRow, Other, Unmet, Tells, Sixteen, hushes, stays, settleFrom}
 use Rattle.calm.proofs.Looks.{step-some, quiet-near}

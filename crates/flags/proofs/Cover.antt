@@ -16,7 +16,7 @@ use Rattle.grid.proofs.Cells.{dec-eq, num-inj}
 use Rattle.grid.proofs.Checks.{or-false, not-false}
 use Rattle.spread.specs.declared.Phase.{Phase}
 use Rattle.spread.specs.Scan.{isWalker}
-use Rattle.spread.specs.Quiet.{Clear, Still, Quiet, Settled, Hushed, On, on, Near, Swept}
+use Rattle.spread.specs.Quiet.{Clear, Still, Quiet, Settled, Hushed, on, Near, Swept}
 use Rattle.spread.proofs.Quiets.{still-todo, still-mark, quiet-kept, hushed-quiet, hushed-todo, hushed-walker}
 use Rattle.flags.specs.Flags.{tableLength, placeAt, placeOf, Up, Raises, Covers}
 

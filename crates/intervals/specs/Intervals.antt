@@ -8,7 +8,7 @@ use lib.Signed.{leZ}
 use Rattle.touch.specs.declared.Slab.{Slab}
 use Rattle.touch.specs.declared.Three.{Three}
 use Rattle.touch.specs.declared.Slabs.{Slabs}
-use Rattle.touch.specs.Slabs.{kept, keptThree, keptAll}
+use Rattle.touch.specs.Slabs.{kept, keptThree}
 use Rattle.grid.specs.declared.Cell.{Cell}
 use Rattle.mesh.specs.declared.Ends.{Ends}
 use Rattle.mesh.specs.declared.Block.{Block}

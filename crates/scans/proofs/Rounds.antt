@@ -8,7 +8,7 @@ use native.Mathlib.Omega.{arith}
 use lib.ListN.{length, getD}
 use Rattle.grid.specs.declared.Axes.{Axes}
 use Rattle.grid.specs.declared.Cell.{Cell}
-use Rattle.grid.specs.Grid.{InGrid, Sheet}
+use Rattle.grid.specs.Grid.{Sheet}
 use Rattle.grid.proofs.Cells.{sheet-kept}
 use Rattle.spread.specs.declared.Phase.{Phase}
 use Rattle.spread.specs.Scan.{State, visited, inTurn, rowed, slabbed, scanned}

@@ -7,7 +7,7 @@ use Prim.Native.Nat.{ℕ, _+_, _*_, _≤_, _<_}
 use lib.ListN.{length, getD}
 use Rattle.grid.specs.declared.Axes.{Axes}
 use Rattle.grid.specs.declared.Cell.{Cell}
-use Rattle.grid.specs.Grid.{InGrid, at}
+use Rattle.grid.specs.Grid.{at}
 use Rattle.grid.specs.Ways.{Way, room, beside}
 use Rattle.spread.specs.declared.Phase.{Phase}
 use Rattle.spread.specs.Scan.{State, isWalker, inTurn, slabbed}

@@ -4,7 +4,6 @@ ghost use mathlib.Core.Bool.{cond};
 ghost use mathlib.Core.Path.{_≡_};
 ghost use Prim.Native.Nat.{_≤_, _<_};
 ghost use lib.Dec.{eqb};
-ghost use lib.ListN.{length};
 ghost use Rattle.grid.specs.Grid.{Sheet};
 ghost use Rattle.touch.specs.Slabs.{SlabsFit};
 ghost use Rattle.mesh.specs.Mesh.{triangles};

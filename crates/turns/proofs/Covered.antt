@@ -1,5 +1,5 @@
 -- After walks along an axis the table covers all that may act, where the groups between their ends were raised. Assumes nothing.
-use mathlib.Core.Path.{_≡_, refl, sym, ap, subst, _∙_}
+use mathlib.Core.Path.{_≡_, sym, ap, subst, _∙_}
 use mathlib.Core.List.{List}
 use Prim.Native.Nat.{ℕ, _+_, _*_, _-_, _≤_, _<_}
 use Rattle.grid.specs.declared.Axes.{Axes}

@@ -1,9 +1,9 @@
 // Visits of cells in their turn in a scan: each walks, and what it passes is raised in the table of groups
 // that may act (the crate `flags`), so that groups that are not raised can be passed over.
 ghost use mathlib.Core.Path.{_≡_};
-ghost use Prim.Native.Nat.{_+_, _*_, _-_, _≤_, _<_, min};
+ghost use Prim.Native.Nat.{_+_, _*_, _-_, _≤_, _<_};
 ghost use Rattle.grid.specs.Grid.{num, InGrid, Sheet};
-ghost use Rattle.spread.specs.Scan.{walkedFrom, visited, inTurn, rowed, slabbed};
+ghost use Rattle.spread.specs.Scan.{walkedFrom, visited, inTurn};
 ghost use Rattle.spread.specs.Rays.{walkedBoth};
 ghost use Rattle.spread.specs.Quiet.{Clear};
 ghost use Rattle.flags.specs.Flags.{Covers};

@@ -1,8 +1,7 @@
 -- `calm::acts` meets its contract: what stands a step away on each axis is what the six neighbours have (`quiet-near`). Assumes nothing.
-use mathlib.Core.Path.{_≡_, refl, sym, ap, subst, _∙_}
-use Prim.Native.Nat.{ℕ, _+_, _*_, _-_, _≤_, _<_}
+use mathlib.Core.Path.{refl}
+use Prim.Native.Nat.{_*_}
 use native.Mathlib.Omega.{arith}
-use lib.ListN.{length}
 use Rattle.grid.specs.Ways.{up-i, up-j, up-k}
 use Rattle.grid.proofs.Cells.{terms}
 use Rattle.grid.proofs.Checks.{or-false}

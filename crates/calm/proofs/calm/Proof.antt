@@ -1,6 +1,5 @@
 -- `calm::calm` meets its contract (`Parts`). Assumes nothing.
-use mathlib.Core.Path.{_≡_}
-use Prim.Native.Nat.{ℕ, _+_, _*_, _-_, _≤_, _<_}
+use Prim.Native.Nat.{_-_, _≤_}
 use native.Mathlib.Omega.{arith}
 use Rattle.calm.proofs.Calming.{Parts, parts-none, parts-more}
 use Rattle.calm.proofs.calm.Statement.{statement}

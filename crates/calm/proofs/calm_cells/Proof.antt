@@ -1,14 +1,12 @@
 -- `calm::calm_cells` meets its contract: up to here cells were set before their turn, or are settled, or one may act (`Calming`). Assumes nothing.
 use mathlib.Core.Bool.{false, true, true≢false}
-use mathlib.Core.Path.{_≡_, refl, sym, ap, subst, _∙_}
+use mathlib.Core.Path.{_≡_, refl, sym, subst, _∙_}
 use Prim.Native.Nat.{ℕ, _+_, _*_, _-_, _≤_, _<_}
-use native.Mathlib.Nat.{mul-le-mul}
 use native.Mathlib.Omega.{arith}
 use lib.ListN.{length, getD}
-use Rattle.grid.specs.declared.Axes.{Axes}
 use Rattle.grid.specs.declared.Cell.{Cell}
-use Rattle.grid.specs.Grid.{Sound, InGrid, num, at}
-use Rattle.grid.proofs.Cells.{Terms, terms, num-lt}
+use Rattle.grid.specs.Grid.{InGrid}
+use Rattle.grid.proofs.Cells.{terms, num-lt}
 use Rattle.spread.specs.Scan.{isWalker}
 use Rattle.calm.proofs.Calming.{Calming, calming-none, calming-rest, calming-acts, calming-set}
 use Rattle.calm.proofs.calm_cells.Statement.{statement}

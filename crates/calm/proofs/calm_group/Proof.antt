@@ -1,7 +1,5 @@
 -- `calm::calm_group` meets its contract (`group-covers`). Assumes nothing.
-use mathlib.Core.Bool.{cond}
 use mathlib.Core.Path.{sym, subst}
-use mathlib.Core.List.{List}
 use Prim.Native.Nat.{ℕ}
 use native.Mathlib.Omega.{arith}
 use lib.ListN.{set}

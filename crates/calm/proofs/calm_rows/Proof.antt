@@ -1,6 +1,5 @@
 -- `calm::calm_rows` meets its contract (`Rows`). Assumes nothing.
-use mathlib.Core.Path.{_≡_}
-use Prim.Native.Nat.{ℕ, _+_, _*_, _-_, _≤_, _<_}
+use Prim.Native.Nat.{_-_}
 use native.Mathlib.Omega.{arith}
 use Rattle.calm.proofs.Calming.{Rows, rows-none, rows-more}
 use Rattle.calm.proofs.calm_rows.Statement.{statement}

@@ -1,6 +1,6 @@
 -- `calm::calm_sixteen` meets its contract: no walk from a cell that is not told changes anything (`untold-quiet`), and so the sixteen are calmed (`all-sixteen`). Assumes nothing.
-use mathlib.Core.Path.{_≡_, refl, sym, ap, _∙_}
-use Prim.Native.Nat.{ℕ, _+_, _*_, _-_, _≤_, _<_}
+use mathlib.Core.Path.{refl}
+use Prim.Native.Nat.{ℕ, _+_, _*_, _≤_}
 use native.Mathlib.Omega.{arith}
 use lib.ListN.{replicate}
 use Rattle.grid.specs.declared.Cell.{Cell}

@@ -1,6 +1,5 @@
 -- `calm::calm_some` meets its contract: cells that are not to walk, and do not walk, are settled. Assumes nothing.
-use mathlib.Core.Path.{_≡_, sym, ap, _∙_}
-use Prim.Native.Nat.{ℕ, _+_, _-_, _≤_, _<_}
+use Prim.Native.Nat.{ℕ, _+_, _≤_}
 use native.Mathlib.Omega.{arith}
 use Rattle.grid.specs.Grid.{InGrid}
 use Rattle.grid.proofs.Cells.{num-lt}

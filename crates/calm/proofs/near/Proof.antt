@@ -1,10 +1,8 @@
 -- `calm::near` meets its contract (`Telling`). Assumes nothing.
-use mathlib.Core.Bool.{Bool, cond, _||_}
-use mathlib.Core.Path.{sym, ap, subst}
-use mathlib.Core.List.{List}
+use mathlib.Core.Path.{sym, subst}
 use Prim.Native.Nat.{ℕ, _+_, _-_}
 use native.Mathlib.Omega.{arith}
-use lib.ListN.{getD, set}
+use lib.ListN.{set}
 use Rattle.calm.proofs.Sixteen.{Telling, telling-none, telling-more}
 use Rattle.calm.proofs.near.Statement.{statement}
 use Rattle.calm.proofs.near.Tie as tie

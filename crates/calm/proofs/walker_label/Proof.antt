@@ -1,6 +1,6 @@
 -- `calm::walker_label` meets its contract, by the case of the walkers. Assumes nothing.
 use mathlib.Core.Bool.{true, true≢false}
-use mathlib.Core.Path.{_≡_, sym, ap, _∙_}
+use mathlib.Core.Path.{sym, ap, _∙_}
 use Rattle.spread.specs.declared.Walkers.{Walkers}
 use Rattle.spread.specs.Scan.{isWalker}
 use Rattle.calm.proofs.Sixteen.{eq-of}

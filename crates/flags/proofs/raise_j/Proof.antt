@@ -1,5 +1,5 @@
 -- `flags::raise_j` meets its contract: the groups of such cells stand a stride apart. Assumes nothing.
-use Prim.Native.Nat.{ℕ, _+_, _*_, _-_, _/_}
+use Prim.Native.Nat.{ℕ, _+_, _*_, _-_}
 use mathlib.Core.Path.{_≡_, ap, _∙_}
 use native.Mathlib.Omega.{arith}
 use Rattle.flags.specs.Flags.{placeAt}

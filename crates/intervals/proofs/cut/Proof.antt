@@ -1,5 +1,5 @@
 -- `intervals::cut` meets its contract: a falling line is cut upside down, and a level one is kept or dropped. Assumes nothing.
-use mathlib.Core.Bool.{Bool, true, false, _&&_}
+use mathlib.Core.Bool.{Bool, false, _&&_}
 use mathlib.Core.Path.{_≡_, ap, sym, _∙_}
 use lib.IntN.{ℤ, pos}
 use lib.Signed.{ltZ, leZ}

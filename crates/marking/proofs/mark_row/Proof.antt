@@ -1,11 +1,11 @@
 -- `marking::mark_row` meets its contract: a loop along i (`Along`), a cell painted in each turn, over the part that the slabs leave. Assumes nothing.
 use native.Mathlib.Omega.{arith}
 use native.Mathlib.Nat.{le-trans}
-use mathlib.Core.Path.{_≡_, sym, subst}
+use mathlib.Core.Path.{sym, subst}
 use Prim.Native.Nat.{ℕ, _-_, _<_}
 use lib.ListN.{length, set}
 use Rattle.grid.specs.declared.Cell.{Cell}
-use Rattle.grid.specs.Grid.{InGrid, num, Sheet}
+use Rattle.grid.specs.Grid.{InGrid, Sheet}
 use Rattle.grid.proofs.Cells.{num-lt}
 use Rattle.mesh.specs.Ranges.{holds}
 use Rattle.marking.specs.Painted.{Painted, rowOf, one}

@@ -1,6 +1,6 @@
 -- `scans::row` meets its contract: a group that is not raised changes nothing (`row-low`), and the others are visited (`row-high`). Assumes nothing.
 use mathlib.Core.Path.{_≡_, refl, _∙_}
-use Prim.Native.Nat.{ℕ, _+_, _*_, _-_, _≤_, _<_, min}
+use Prim.Native.Nat.{_-_, _≤_}
 use native.Mathlib.Omega.{arith}
 use lib.ListN.{length}
 use Rattle.flags.specs.Flags.{Covers}

@@ -1,6 +1,6 @@
 -- `scans::slabs` meets its contract: a slab in each turn (`Turns`). Assumes nothing.
 use mathlib.Core.Path.{_≡_, refl, _∙_}
-use Prim.Native.Nat.{ℕ, _+_, _*_, _-_, _≤_, _<_}
+use Prim.Native.Nat.{_-_}
 use native.Mathlib.Omega.{arith}
 use lib.ListN.{length}
 use Rattle.spread.specs.Scan.{slabbed}

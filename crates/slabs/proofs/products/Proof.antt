@@ -1,10 +1,9 @@
 -- `slabs::products` meets its contract: the products of an edge with the axes, written out. Assumes nothing.
 use lib.Dec.{lit<}
-use mathlib.Core.Path.{_≡_, refl, sym, _∙_}
+use mathlib.Core.Path.{refl, sym, _∙_}
 use lib.IntN.{pos}
 use Rattle.ints.specs.Bound.{arg, negate, v-negate, fits, in3, in-up, in-lit, each-eq, v-in, cons3}
-use Rattle.touch.specs.declared.Three.{Three}
-use Rattle.touch.specs.Slabs.{slabOf, threeOf, EdgeFits}
+use Rattle.touch.specs.Slabs.{threeOf, EdgeFits}
 use Rattle.touch.proofs.Laws.{edge-in, cross-x, cross-y, cross-z}
 use Rattle.slabs.proofs.products.Statement.{statement}
 use Rattle.slabs.proofs.products.Tie as tie

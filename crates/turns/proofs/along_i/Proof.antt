@@ -1,9 +1,7 @@
 -- `turns::along_i` meets its contract: the groups between the two walks' ends cover what they passed (`covers-i`). Assumes nothing.
 use mathlib.Core.Path.{sym, subst}
-use Prim.Native.Nat.{ℕ, _*_}
-use native.Mathlib.Omega.{arith}
+use Prim.Native.Nat.{ℕ}
 use lib.ListN.{length}
-use Rattle.grid.proofs.Cells.{terms}
 use Rattle.spread.specs.Rays.{Span}
 use Rattle.spread.proofs.Rays.{span-i}
 use Rattle.turns.proofs.Covered.{covers-i}

@@ -1,9 +1,8 @@
 -- `turns::along_j` meets its contract: the groups between the two walks' ends cover what they passed (`covers-j`). Assumes nothing.
 use mathlib.Core.Path.{sym, subst}
-use Prim.Native.Nat.{ℕ, _*_}
+use Prim.Native.Nat.{ℕ}
 use native.Mathlib.Omega.{arith}
 use lib.ListN.{length}
-use Rattle.grid.proofs.Cells.{terms}
 use Rattle.spread.specs.Rays.{Span}
 use Rattle.spread.proofs.Rays.{span-j}
 use Rattle.turns.proofs.Covered.{covers-j}

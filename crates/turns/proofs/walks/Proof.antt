@@ -1,6 +1,5 @@
 -- `turns::walks` meets its contract: both ways on each axis are the six ways (`six-ways`). Assumes nothing.
 use mathlib.Core.Path.{ap, _∙_}
-use Prim.Native.Nat.{_*_}
 use Rattle.grid.proofs.Cells.{sheet-kept}
 use Rattle.spread.specs.Rays.{walkedBoth}
 use Rattle.spread.proofs.Rays.{six-ways}
