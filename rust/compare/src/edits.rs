@@ -9,28 +9,36 @@ use crate::tally::{shown, Case, Tally};
 use lifted::models::edits::{self, Edit, Map, CLOSE, INSIDE, OPEN, OUTSIDE, SURFACE};
 use lifted::models::{fill, Fault};
 
-/// An edit of any map, compared with the model of 01's section Edits; the labels become those after it.
-pub fn compare(tally: &mut Tally, axes: [u32; 3], labels: &mut Vec<u8>, e: Edit) {
+/// One edit: a refusal must be the model's and leave every byte; an answer must count the labels that differ, leave the
+/// guards, and be `right` of the labels before and after. The labels become those after it.
+fn judge(tally: &mut Tally, axes: [u32; 3], labels: &mut Vec<u8>, e: Edit, right: impl Fn(&[u8], &[u8]) -> bool) {
     let mut lent = Lent::of(labels);
     let ours = edited(&mut lent, axes, e);
     let to_be = edits::refusal(axes, labels, e);
     let same = match to_be {
         Some(f) => ours == Err(f) && lent.untouched(),
         None => {
-            let mut map = Map { axes: axes.map(|r| r as usize), labels: labels.clone() };
-            let c = map.number(e.cell.map(|x| x as usize));
-            if e.way == edits::OPEN {
-                map.open(c);
-            } else {
-                map.close(c);
-            }
-            let changed = differing(&map.labels, labels);
-            ours == Ok(changed) && lent.read() == map.labels && lent.guards_untouched()
+            let after = lent.read();
+            ours == Ok(differing(after, labels)) && right(labels, after) && lent.guards_untouched()
         }
     };
     let input = || format!("way {} of cell {:?}, axes {axes:?}, labels {}: {ours:?}", e.way, e.cell, shown(labels));
     tally.judge(same, to_be, labels.len() + 1, labels.len(), input);
     labels.copy_from_slice(lent.read());
+}
+
+/// An edit of any map, compared with the model of 01's section Edits; the labels become those after it.
+pub fn compare(tally: &mut Tally, axes: [u32; 3], labels: &mut Vec<u8>, e: Edit) {
+    judge(tally, axes, labels, e, |before, after| {
+        let mut map = Map { axes: axes.map(|r| r as usize), labels: before.to_vec() };
+        let c = map.number(e.cell.map(|x| x as usize));
+        if e.way == edits::OPEN {
+            map.open(c);
+        } else {
+            map.close(c);
+        }
+        map.labels == after
+    });
 }
 
 /// Opens or closes; answers how many labels are said to have changed.
@@ -103,21 +111,10 @@ fn only_joined(axes: [u32; 3], before: &[u8], after: &[u8], e: Edit) -> bool {
 
 /// One edit of a map that is a fill, compared with a fresh fill by the lifted crate if asked.
 fn step(tally: &mut Tally, axes: [u32; 3], labels: &mut Vec<u8>, e: Edit, fresh: bool) {
-    let mut lent = Lent::of(labels);
-    let ours = edited(&mut lent, axes, e);
-    let to_be = edits::refusal(axes, labels, e);
-    let same = match to_be {
-        Some(f) => ours == Err(f) && lent.untouched(),
-        None => {
-            let after = lent.read();
-            let filled = !fresh || fill::lifted(axes, after, fill::FLOOD).labels == after;
-            let counted = ours == Ok(differing(after, labels));
-            filled && counted && only_joined(axes, labels, after, e) && lent.guards_untouched()
-        }
-    };
-    let input = || format!("way {} of cell {:?}, axes {axes:?}, labels {}: {ours:?}", e.way, e.cell, shown(labels));
-    tally.judge(same, to_be, labels.len() + 1, labels.len(), input);
-    labels.copy_from_slice(lent.read());
+    judge(tally, axes, labels, e, |before, after| {
+        let filled = !fresh || fill::lifted(axes, after, fill::FLOOD).labels == after;
+        filled && only_joined(axes, before, after, e)
+    });
 }
 
 /// A long sequence of edits of a fill, shorter on a large grid, where only every eighth map, and the last, is filled
