@@ -16,7 +16,7 @@ use Rattle.spread.specs.Scan.{isWalker}
 use Rattle.spread.specs.Quiet.{Clear, Quiet, Settled}
 use Rattle.spread.proofs.Quiets.{sooner-same, hushed-settled, hushed-none, hushed-one, hushed-then}
 use Rattle.flags.specs.Flags.{placeAt, placeOf, Covers}
-use Rattle.flags.proofs.Cover.{covers-hushed, covers-lower, covers-raise, raises-set}
+use Rattle.flags.proofs.Cover.{covers-hushed, covers-lower, covers-raise, raises-set, not-last}
 use Rattle.calm.specs.Calm.{Calms, Resting, InRow, InRows, Grouped}
 
 -- ---- a row, up to i
@@ -56,10 +56,7 @@ module _ (p : Phase) (k : Clear p) (r : Axes) (first end : ℕ) where
     rests-more l i acting s f e c h x =
         dec-eq (c .i) i
         (λ y. subst (Settled p r l) (sym (cell-path c (record { i = i; j = j; k = q }) y (x .j-same) (x .k-same))) (s e))
-        (λ z. f e c h (record { i-least = x .i-least; i-most = less (c .i) i z (x .i-most); j-same = x .j-same; k-same = x .k-same }))
-      where
-        less : (a b : ℕ) → (a ≡ b → ⊥) → a < b + 1 → a < b
-        less a b z h = omega arith
+        (λ z. f e c h (record { i-least = x .i-least; i-most = not-last (c .i) i (x .i-most) z; j-same = x .j-same; k-same = x .k-same }))
 
     pub calming-rest : {l : List ℕ} {w i : ℕ} {acting : Bool} → Calming p r first end j q l₀ w₀ l w i acting → i < end → Settled p r l (record { i = i; j = j; k = q }) → Calming p r first end j q l₀ w₀ l w (i + 1) acting
     calming-rest {l = l} {i = i} {acting = acting} a h s = record {
@@ -137,11 +134,8 @@ module _ (p : Phase) (k : Clear p) (r : Axes) (first end j from to : ℕ) (l₀ 
         let y = or-false acting a e in
         dec-eq (c .k) q
         (λ z. f (y .1) c i (record { i-least = x .i-least; i-most = x .i-most; j-same = x .j-same; k-same = z }))
-        (λ z. rests-on p k r first end b (s .rests) (y .0) c i (record { i-least = x .i-least; i-most = x .i-most; j-same = x .j-same; k-least = x .k-least; k-most = less (c .k) q z (x .k-most) }));
+        (λ z. rests-on p k r first end b (s .rests) (y .0) c i (record { i-least = x .i-least; i-most = x .i-most; j-same = x .j-same; k-least = x .k-least; k-most = not-last (c .k) q (x .k-most) z }));
   }
-    where
-      less : (a b : ℕ) → (a ≡ b → ⊥) → a < b + 1 → a < b
-      less a b z h = omega arith
 
 -- ---- groups
 

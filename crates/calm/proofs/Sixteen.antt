@@ -5,7 +5,7 @@ use mathlib.Core.Path.{_≡_, refl, sym, ap, subst, _∙_}
 use mathlib.Core.List.{List}
 use Prim.Native.Nat.{ℕ, zero, suc, _+_, _*_, _-_, _≤_, _<_}
 use native.Mathlib.Omega.{arith}
-use lib.Dec.{T, eqb, eqb→eq}
+use lib.Dec.{eqb}
 use lib.ListN.{length, getD, set, length-set}
 use lib.Seq.{set-getD, getD-set-same, getD-set-other}
 use borrow.Author.Tests.{eq-eqb}
@@ -18,6 +18,7 @@ use Rattle.spread.specs.declared.Phase.{Phase}
 use Rattle.spread.specs.Scan.{isWalker}
 use Rattle.spread.specs.Quiet.{Clear, Still, Quiet}
 use Rattle.spread.proofs.Quiets.{hushed-quiet}
+use Rattle.flags.proofs.Cover.{eq-of, not-last}
 use Rattle.calm.specs.Calm.{stepIf, Resting, InRow, Other, Unmet, Tells, Sixteen, hushes, stays, settleFrom}
 use Rattle.calm.proofs.Looks.{step-some, quiet-near}
 use Rattle.calm.proofs.Calming.{Calming, calming-none, calming-rest, calming-acts, calming-set}
@@ -26,9 +27,6 @@ use Rattle.calm.proofs.Calming.{Calming, calming-none, calming-rest, ca
 
 false-ne : (v a : ℕ) → eqb v a ≡ false → v ≡ a → ⊥
 false-ne v a e q = true≢false (sym (eq-eqb v a q) ∙ e)
-
-pub eq-of : (v a : ℕ) → eqb v a ≡ true → v ≡ a
-eq-of v a e = eqb→eq v a (subst T (sym e) tt)
 
 pub other-than : (v a b : ℕ) → (eqb v a || eqb v b) ≡ false → Other a b v
 other-than v a b e = let q = or-false (eqb v a) (eqb v b) e in record { first = false-ne v a (q .0); second = false-ne v b (q .1) }
@@ -54,11 +52,8 @@ looked-more l n a b some x d h e k = record {
       let z = or-false some x q in
       dec-eq y d
       (λ u. subst (λ (t : ℕ). Other a b (getD l (n + t) 0)) (sym u) (other-than (getD l (n + d) 0) a b (sym e ∙ z .1)))
-      (λ u. k .none (z .0) y (less y d g u));
+      (λ u. k .none (z .0) y (not-last y d g u));
 }
-  where
-    less : (y d : ℕ) → y < d + 1 → (y ≡ d → ⊥) → y < d
-    less y d g u = omega arith
 
 -- ---- a loop that tells d of them
 
@@ -87,15 +82,12 @@ module _ (l : List ℕ) (n up down a b : ℕ) (told : List ℕ) where
         let w = one-told (x || y) (getD t d 0) (sym (getD-set-same t d v 0 (omega (arith, k .size))) ∙ ap (λ (i : ℕ). getD (set t d v) i 0) (sym u) ∙ q) in
         let s = or-false x y (w .0) in
         subst (Unmet l n up down a b told) (sym u) (record { before = sym (k .rest d (omega arith)) ∙ w .1; above = other-than (getD l (n + up + d) 0) a b (sym e ∙ s .0); under = other-than (getD l (n - down + d) 0) a b (sym f ∙ s .1) }))
-        (λ u. k .done z (less z d g u) (sym (getD-set-other t d z v 0 u) ∙ q));
+        (λ u. k .done z (not-last z d g u) (sym (getD-set-other t d z v 0 u) ∙ q));
     rest = λ z g. getD-set-other t d z v 0 (λ u. past z d g u) ∙ k .rest z (omega arith);
   }
     where
       v : ℕ
       v = cond (x || y) 1 (getD t d 0)
-
-      less : (z d : ℕ) → z < d + 1 → (z ≡ d → ⊥) → z < d
-      less z d g u = omega arith
 
       past : (z d : ℕ) → d + 1 ≤ z → z ≡ d → ⊥
       past z d g u = omega arith

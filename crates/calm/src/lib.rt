@@ -71,12 +71,6 @@ struct Calmed {
     acting: bool,
 }
 
-fn one_if(b: bool) -> u8
-    ensures { λ n. ⌜ n ≡ cond b 1 0 ⌝ }
-{
-    if b { 1 } else { 0 }
-}
-
 // The cells of slabs `first` up to, not including, `end` with one j and one k, cell by cell.
 fn calm_cells(
     l: &mut [u8],
@@ -369,7 +363,7 @@ fn calm_group(
         return before;
     }
     let a = calm_rows(l, p, r, first, end, j, from, to, before);
-    t[n] = one_if(a.acting);
+    t[n] = choose(a.acting, 1, 0);
     a.walked
 }
 

@@ -222,6 +222,14 @@ module _ (from stride count : ℕ) (t₀ : List ℕ) where
       less : (s : ℕ) → s < count - (left - 1) → (s ≡ count - left → ⊥) → s < count - left
       less s u z = omega (arith, a .most)
 
+-- ---- small laws that loops share
+
+pub eq-of : (v a : ℕ) → eqb v a ≡ true → v ≡ a
+eq-of v a e = eqb→eq v a (subst T (sym e) tt)
+
+pub not-last : (x n : ℕ) → x < n + 1 → (x ≡ n → ⊥) → x < n
+not-last x n g u = omega arith
+
 -- ---- a loop that looks at n bytes from `first` on
 
 pub record Lying (t : List ℕ) (first : ℕ) (some : Bool) (n : ℕ) : Type 0 where
@@ -237,12 +245,6 @@ lying-more t first some n h a = record {
   none = λ e x g.
       let q = or-false some (not (eqb (getD t (first + n) 0) 0)) e in
       dec-eq x n
-      (λ u. ap (λ (y : ℕ). getD t (first + y) 0) u ∙ zero-is (getD t (first + n) 0) (not-false (eqb (getD t (first + n) 0) 0) (q .1)))
-      (λ u. a .none (q .0) x (less x n g u));
+      (λ u. ap (λ (y : ℕ). getD t (first + y) 0) u ∙ eq-of (getD t (first + n) 0) 0 (not-false (eqb (getD t (first + n) 0) 0) (q .1)))
+      (λ u. a .none (q .0) x (not-last x n g u));
 }
-  where
-    zero-is : (v : ℕ) → eqb v 0 ≡ true → v ≡ 0
-    zero-is v e = eqb→eq v 0 (subst T (sym e) tt)
-
-    less : (x n : ℕ) → x < n + 1 → (x ≡ n → ⊥) → x < n
-    less x n g u = omega arith

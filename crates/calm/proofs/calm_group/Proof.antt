@@ -21,8 +21,8 @@ returns c = let a = c .before .before .before .before .before in (calms-none (a 
 calm-rows-requires : tie.Need-calm-rows-requires
 calm-rows-requires c κs = search needs
 
-one-if-requires : tie.Need-one-if-requires
-one-if-requires c κs = search needs
+choose-requires : tie.Need-choose-requires
+choose-requires c κs = search needs
 
 slice-write-t : tie.Need-slice-write-t
 slice-write-t c = search needs
@@ -38,7 +38,7 @@ returns-2 c =
     let a = c .before .before .before .before .before .before .before .before .before .before in
     let e = c .before .before .before .calm-rows .ensures in
     let g = a .pre .1 .0 in
-    (e .0, (omega (arith, e .1 .0, g .ends), subst (λ (v : ℕ). Covers (a .args .p) (a .args .r) (c .before .before .before .calm-rows .last .0) (set (a .args .t .now) (c .before .before .before .before .before .before .before .place .result) v)) (sym (c .one-if .ensures)) (group-covers (a .args .p) (a .pre .0 .1) (a .args .r) _ _ _ _ _ g (a .pre .0 .0 .sound) (a .pre .1 .1) (c .before .before .before .calm-rows .result .acting) (e .0) (a .pre .0 .2) (e .1 .1) (c .before .before .before .before .before .before .before .place .ensures .0) (omega (arith, c .before .before .before .before .before .before .before .place .ensures .1, a .pre .0 .2 .size)))))
+    (e .0, (omega (arith, e .1 .0, g .ends), subst (λ (v : ℕ). Covers (a .args .p) (a .args .r) (c .before .before .before .calm-rows .last .0) (set (a .args .t .now) (c .before .before .before .before .before .before .before .place .result) v)) (sym (c .choose .ensures)) (group-covers (a .args .p) (a .pre .0 .1) (a .args .r) _ _ _ _ _ g (a .pre .0 .0 .sound) (a .pre .1 .1) (c .before .before .before .calm-rows .result .acting) (e .0) (a .pre .0 .2) (e .1 .1) (c .before .before .before .before .before .before .before .place .ensures .0) (omega (arith, c .before .before .before .before .before .before .before .place .ensures .1, a .pre .0 .2 .size)))))
 
 pub calm-group-spec : {M : Type 1} → statement M
 calm-group-spec =
@@ -48,7 +48,7 @@ calm-group-spec =
     slice-read-if1
     returns
     calm-rows-requires
-    one-if-requires
+    choose-requires
     slice-write-t
     same-length
     same-length-2

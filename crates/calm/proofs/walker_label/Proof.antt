@@ -3,7 +3,7 @@ use mathlib.Core.Bool.{true, true≢false}
 use mathlib.Core.Path.{sym, ap, _∙_}
 use Rattle.spread.specs.declared.Walkers.{Walkers}
 use Rattle.spread.specs.Scan.{isWalker}
-use Rattle.calm.proofs.Sixteen.{eq-of}
+use Rattle.flags.proofs.Cover.{eq-of}
 use borrow.Author.Needs.{needs}
 use Rattle.calm.proofs.walker_label.Statement.{statement}
 use Rattle.calm.proofs.walker_label.Tie as tie
