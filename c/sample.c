@@ -45,7 +45,7 @@ static void map_and_list(void) {
     expect("pairs", listed.pairs, 3);
     expect("end of the first range", records[5], 2);
     expect("a range past the list", vm_check_range(list, 3, 2, 4).number, 15);
-    expect("length of a part", vm_part(list, 3, 0, 2).length, 2);
+    expect("length of a slice", vm_list_slice(list, 3, 0, 2).length, 2);
 
     float corners[48];
     uint32_t faces[72];

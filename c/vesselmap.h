@@ -83,17 +83,17 @@ typedef struct {
     size_t outside, inside, surface, left, scans;
 } vm_summarized;
 
-/* A part of a lent list: where it begins there, and how long it is. */
+/* A slice of a lent list: where it begins there, and how long it is. */
 typedef struct {
     size_t start, length;
-} vm_a_part;
+} vm_slice;
 
 /* ---- the grid, the walls, the inside */
 
 vm_sized vm_size_by_cell(const float *points, size_t points_len, float size);
 vm_sized vm_size_by_resolution(const float *points, size_t points_len, uint32_t resolution);
 vm_verdict vm_mark(const float *points, size_t points_len, const uint32_t *triangles, size_t triangles_len,
-                   vm_axes r, vm_placement at, uint8_t *labels, size_t labels_len);
+                   vm_axes r, vm_placement placement, uint8_t *labels, size_t labels_len);
 vm_filled vm_fill_surface(uint8_t *labels, size_t labels_len, vm_axes r);
 vm_filled vm_fill_flood(uint8_t *labels, size_t labels_len, vm_axes r);
 vm_filled vm_fill_cavities(uint8_t *labels, size_t labels_len, vm_axes r);
@@ -107,20 +107,20 @@ vm_counted vm_close_cell(uint8_t *labels, size_t labels_len, vm_axes r, vm_cell 
 
 vm_listed vm_list_cells(const uint8_t *labels, size_t labels_len, vm_axes r, uint32_t *records, size_t records_len);
 vm_listed vm_list_pairs(const float *points, size_t points_len, const uint32_t *triangles, size_t triangles_len,
-                        vm_axes r, vm_placement at, const uint8_t *labels, size_t labels_len, uint32_t *records,
+                        vm_axes r, vm_placement placement, const uint8_t *labels, size_t labels_len, uint32_t *records,
                         size_t records_len, uint32_t *list, size_t list_len);
 vm_verdict vm_check_range(const uint32_t *list, size_t list_len, uint32_t start, uint32_t end);
-vm_a_part vm_part(const uint32_t *list, size_t list_len, uint32_t start, uint32_t end);
+vm_slice vm_list_slice(const uint32_t *list, size_t list_len, uint32_t start, uint32_t end);
 
 /* ---- parts, planes, boxes */
 
 vm_verdict vm_classify(const uint32_t *entries, size_t entries_len, const uint32_t *ends, size_t ends_len,
                        size_t count, uint32_t *classes, size_t classes_len);
-vm_planned vm_planes(vm_placement at, size_t axis, size_t low, size_t high, size_t best, size_t step, float *ds,
+vm_planned vm_planes(vm_placement placement, size_t axis, size_t low, size_t high, size_t best, size_t step, float *ds,
                      size_t ds_len);
 vm_parted vm_split(const float *points, size_t points_len, size_t axis, float d, float *above, size_t above_len,
                    float *below, size_t below_len);
-vm_counted vm_boxes(const uint8_t *labels, size_t labels_len, vm_axes r, vm_placement at, uint8_t label,
+vm_counted vm_boxes(const uint8_t *labels, size_t labels_len, vm_axes r, vm_placement placement, uint8_t label,
                     float *points, size_t points_len, uint32_t *triangles, size_t triangles_len);
 
 /* ---- the program, over bytes; 256 bytes hold every text */

@@ -14,7 +14,7 @@ use Rattle.grid.specs.Answers.{answers}
 use Rattle.grid.specs.Grid.{Sheet}
 use Rattle.grid.specs.Checks.{gridFault}
 use Rattle.grid.proofs.Checks.{both-fine, sheet-fine}
-use Rattle.mesh.specs.Faults.{originFault, lentFault}
+use Rattle.marking_mesh.specs.Faults.{originFault, lentFault}
 use Rattle.order.specs.Output.{roomFault, over, Written}
 use Rattle.order.proofs.Lent.{refused-answer, refused-lent, fine-answer, fine-lent}
 use Rattle.order.proofs.Outputs.{written-over, room-fine}

@@ -19,7 +19,7 @@ use Rattle.grid.specs.Grid.{cells}
 use Rattle.grid.specs.Checks.{gridFault, takes}
 use Rattle.grid.proofs.Checks.{finds-if, finds-then, finds-first, finds-grid, gives-unless}
 use Rattle.sizing.specs.Points.{bounded}
-use Rattle.mesh.specs.Faults.{originFault, leastScale, greatestScale, lentFault}
+use Rattle.marking_mesh.specs.Faults.{originFault, leastScale, greatestScale, lentFault}
 use Rattle.order.specs.Order.{knownLabels}
 use Rattle.order.specs.Output.{roomFault, over}
 use Rattle.order.proofs.Lists.{join-length}
@@ -29,8 +29,8 @@ use Rattle.order.proofs.Sums.{kept-count}
 use Rattle.boxes.specs.declared.Boxing.{Boxing}
 use Rattle.boxes.specs.declared.Boxing.the-variants.{Boxed, Refused}
 use Rattle.boxes.specs.Boxes.{outcome, corners, cornerOf, cellCorners, faces, faceOf, cellTriangles, boxCells, boxCount, boxPoints, boxTriangles, askedFault, boxesFault, roomsFault, allFault, boxesAnswer, pointsBuffer, trianglesBuffer}
-use Rattle.corners.proofs.Rows.{join-at}
-use Rattle.corners.proofs.Tables.{eight-corners, twelve-faces, corner-row, face-row, face-corner, corner-length, face-length}
+use Rattle.boxes_corners.proofs.Rows.{join-at}
+use Rattle.boxes_corners.proofs.Tables.{eight-corners, twelve-faces, corner-row, face-row, face-corner, corner-length, face-length}
 
 -- ---- the tables
 

@@ -15,12 +15,12 @@ use Rattle.grid.specs.Counts.{countOf}
 use Rattle.grid.specs.Grid.{Sheet, at}
 use Rattle.grid.proofs.Cells.{cells-max}
 use Rattle.grid.proofs.Counts.{count-most}
-use Rattle.order.specs.Order.{joinAll, Stands, nextCell}
+use Rattle.order.specs.Order.{joinAll, AtOrPast, nextCell}
 use Rattle.order.specs.Output.{Written}
 use Rattle.order.proofs.Orders.{Passing, passing-first, passing-no, passing-yes, passing-done, passing-room}
 use Rattle.order.proofs.Outputs.{written-none, written-then}
 use Rattle.boxes.specs.Boxes.{cellCorners, cellTriangles, boxCells, boxCount, boxPoints, boxTriangles}
-use Rattle.corners.proofs.Rows.{written-as, written-row}
+use Rattle.boxes_corners.proofs.Rows.{written-as, written-row}
 use Rattle.boxes.proofs.Laws.{cell-points, triangles-length, box-count}
 
 -- ---- one box more, and how many there are
@@ -71,7 +71,7 @@ module _ (l : List ℕ) (r : Axes) (label : ℕ) (p : Placement) (ps₀ : List F
         let e = passing-done r (s .sound) (asked r l label) (a .done) c (a .passing) h in
         (written-as nan 0 _ _ ps₀ ps (ap (boxPoints p) e) (a .points), written-as 0 0 _ _ ts₀ ts (ap (boxTriangles 0) (a .number ∙ ap (λ (cs : List Cell). length cs) e)) (a .triangles))
 
-    module _ (h : c .i < r .r0) (d : Cell) (e : d ≡ nextCell r c) (o : Stands r d) where
+    module _ (h : c .i < r .r0) (d : Cell) (e : d ≡ nextCell r c) (o : AtOrPast r d) where
       pub writing-no : asked r l label c ≡ false → Writing l r label p ps₀ ts₀ ps ts n d
       writing-no w = record {
         done = a .done;

@@ -12,13 +12,15 @@ use Rattle.grid.specs.declared.Placement.{Placement}
 use Rattle.grid.specs.Answers.{Outcome, answers, refuses, faultIf, _andThen_, unless, lentAfter}
 use Rattle.grid.specs.Grid.{at}
 use Rattle.grid.specs.Checks.{gridFault, labelsFault}
-use Rattle.mesh.specs.Faults.{originFault, lentFault}
+use Rattle.grid.specs.Labels.{SURFACE}
+use Rattle.grid.specs.Refusals.{BAD-LABEL}
+use Rattle.marking_mesh.specs.Faults.{originFault, lentFault}
 use Rattle.order.specs.Order.{inOrder, keep, joinAll, knownLabels}
 use Rattle.order.specs.Output.{roomFault, over}
 use Rattle.boxes.specs.declared.Boxing.{Boxing}
 use Rattle.boxes.specs.declared.Boxing.the-variants.{Boxed, Refused}
-pub use Rattle.corners.specs.Corners.{lo, hi, cellCorners, cellTriangles}
-unfoldable pub use Rattle.corners.specs.Corners.{corners, faces, cornerOf, faceOf}
+pub use Rattle.boxes_corners.specs.Corners.{lo, hi, cellCorners, cellTriangles}
+unfoldable pub use Rattle.boxes_corners.specs.Corners.{corners, faces, cornerOf, faceOf}
 
 -- 01's number and values for each case of `Boxing`: how many cells were made boxes
 abbrev pub outcome : Boxing → Outcome ℕ
@@ -31,7 +33,7 @@ abbrev pub boxCells : Axes → List ℕ → ℕ → List Cell
 boxCells r l label = keep (λ c. eqb (at r l c) label) (inOrder r)
 
 abbrev pub boxPoints : Placement → List Cell → List Float
-boxPoints at cs = joinAll (cellCorners at) cs
+boxPoints placement cs = joinAll (cellCorners placement) cs
 
 -- "V takes `s` after pushing the corners, so its triangles point 8 too far. The port takes it before": the triangles of n cells, of which the first has m cells before it, with eight points each
 unfoldable pub boxTriangles : ℕ → ℕ → List ℕ
@@ -42,10 +44,10 @@ boxTriangles m (suc n) = cellTriangles (8 * m) ++ boxTriangles (m + 1) n
 
 -- "11: a label the call does not take"; "an asked label comes first, as 0"
 abbrev pub askedFault : ℕ → Checked
-askedFault label = faultIf (ltb 8 label) 11 0 Fine
+askedFault label = faultIf (ltb SURFACE label) BAD-LABEL 0 Fine
 
 abbrev pub boxesFault : List ℕ → Axes → Placement → ℕ → Checked
-boxesFault l r at label = originFault at andThen lentFault at andThen gridFault r (length l) andThen askedFault label andThen labelsFault knownLabels l
+boxesFault l r placement label = originFault placement andThen lentFault placement andThen gridFault r (length l) andThen askedFault label andThen labelsFault knownLabels l
 
 -- 14 of outputs of p and t numbers, for n cells
 abbrev pub roomsFault : ℕ → ℕ → ℕ → Checked
@@ -55,13 +57,13 @@ abbrev pub boxCount : List ℕ → Axes → ℕ → ℕ
 boxCount l r label = length (boxCells r l label)
 
 abbrev pub allFault : List ℕ → Axes → Placement → ℕ → ℕ → ℕ → Checked
-allFault l r at label p t = boxesFault l r at label andThen roomsFault (boxCount l r label) p t
+allFault l r placement label p t = boxesFault l r placement label andThen roomsFault (boxCount l r label) p t
 
 abbrev pub boxesAnswer : List ℕ → Axes → Placement → ℕ → List Float → List ℕ → Outcome ℕ
-boxesAnswer l r at label ps ts = unless (allFault l r at label (length ps) (length ts)) (answers (boxCount l r label))
+boxesAnswer l r placement label ps ts = unless (allFault l r placement label (length ps) (length ts)) (answers (boxCount l r label))
 
 abbrev pub pointsBuffer : List ℕ → Axes → Placement → ℕ → List Float → List ℕ → List Float
-pointsBuffer l r at label ps ts = lentAfter (allFault l r at label (length ps) (length ts)) ps (over (boxPoints at (boxCells r l label)) ps)
+pointsBuffer l r placement label ps ts = lentAfter (allFault l r placement label (length ps) (length ts)) ps (over (boxPoints placement (boxCells r l label)) ps)
 
 abbrev pub trianglesBuffer : List ℕ → Axes → Placement → ℕ → List Float → List ℕ → List ℕ
-trianglesBuffer l r at label ps ts = lentAfter (allFault l r at label (length ps) (length ts)) ts (over (boxTriangles 0 (boxCount l r label)) ts)
+trianglesBuffer l r placement label ps ts = lentAfter (allFault l r placement label (length ps) (length ts)) ts (over (boxTriangles 0 (boxCount l r label)) ts)

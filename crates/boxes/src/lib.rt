@@ -12,6 +12,7 @@ use grid::Cell;
 use grid::Checked;
 use grid::Placement;
 use grid::Refusal;
+use grid::SURFACE;
 
 // What boxes answers: how many cells there are; their points and triangles are in the outputs.
 pub enum Boxing {
@@ -26,14 +27,14 @@ fn write_boxes(
     labels: &[u8],
     r: Axes,
     label: u8,
-    at: Placement,
+    placement: Placement,
     points: &mut [f32],
     triangles: &mut [u32],
 )
     requires { ⌜ Sheet r (now labels) ⌝ }
     requires { ⌜ 24 * countOf label (now labels) ≤ length (now points) ⌝ }
     requires { ⌜ 36 * countOf label (now labels) ≤ length (now triangles) ⌝ }
-    ensures { λ _. ⌜ Written nan 0 (boxPoints at (boxCells r (now (labels .entry)) label)) (now (points .entry)) (now (points .exit)) ⌝ }
+    ensures { λ _. ⌜ Written nan 0 (boxPoints placement (boxCells r (now (labels .entry)) label)) (now (points .entry)) (now (points .exit)) ⌝ }
     ensures { λ _. ⌜ Written 0 0 (boxTriangles 0 (length (boxCells r (now (labels .entry)) label))) (now (triangles .entry)) (now (triangles .exit)) ⌝ }
 {
     let mut n = 0usize;
@@ -44,8 +45,8 @@ fn write_boxes(
         if labels[grid::number(r, c)] == label {
             let b = n;
             n += 1;
-            corners::put_corners(points, 24 * b, at, c);
-            corners::put_triangles(triangles, 36 * b, (8 * b) as u32);
+            boxes_corners::put_corners(points, 24 * b, placement, c);
+            boxes_corners::put_triangles(triangles, 36 * b, (8 * b) as u32);
         }
     }
 }
@@ -56,18 +57,18 @@ fn write_boxes(
 fn asked_fault(label: u8) -> Checked
     ensures { λ f. ⌜ f ≡ askedFault label ⌝ }
 {
-    if 8 < label {
-        return grid::fault(11, 0);
+    if SURFACE < label {
+        return grid::fault(grid::BAD_LABEL, 0);
     }
     Checked::Fine
 }
 
 // Refusals 3, 5, 8, 9 and 11.
-fn boxes_fault(labels: &[u8], r: Axes, at: Placement, label: u8) -> Checked
-    ensures { λ f. ⌜ f ≡ boxesFault (now (labels .entry)) r at label ⌝ }
+fn boxes_fault(labels: &[u8], r: Axes, placement: Placement, label: u8) -> Checked
+    ensures { λ f. ⌜ f ≡ boxesFault (now (labels .entry)) r placement label ⌝ }
 {
-    let numbers = lent::origin_fault(at);
-    let lent = lent::lent_fault(at);
+    let numbers = marking_checks::origin_fault(placement);
+    let lent = marking_checks::lent_fault(placement);
     let of_grid = grid::grid_fault(r, labels.len());
     let asked = asked_fault(label);
     let of_labels = grid::labels_fault(labels, order::known_labels());
@@ -92,23 +93,23 @@ fn rooms_fault(n: usize, points: usize, triangles: usize) -> Checked
 pub fn boxes(
     labels: &[u8],
     r: Axes,
-    at: Placement,
+    placement: Placement,
     label: u8,
     points: &mut [f32],
     triangles: &mut [u32],
 ) -> Boxing
-    ensures { λ a. ⌜ outcome a ≡ boxesAnswer (now (labels .entry)) r at label (now (points .entry)) (now (triangles .entry)) ⌝ }
-    ensures { λ _. ⌜ now (points .exit) ≡ pointsBuffer (now (labels .entry)) r at label (now (points .entry)) (now (triangles .entry)) ⌝ }
-    ensures { λ _. ⌜ now (triangles .exit) ≡ trianglesBuffer (now (labels .entry)) r at label (now (points .entry)) (now (triangles .entry)) ⌝ }
+    ensures { λ a. ⌜ outcome a ≡ boxesAnswer (now (labels .entry)) r placement label (now (points .entry)) (now (triangles .entry)) ⌝ }
+    ensures { λ _. ⌜ now (points .exit) ≡ pointsBuffer (now (labels .entry)) r placement label (now (points .entry)) (now (triangles .entry)) ⌝ }
+    ensures { λ _. ⌜ now (triangles .exit) ≡ trianglesBuffer (now (labels .entry)) r placement label (now (points .entry)) (now (triangles .entry)) ⌝ }
 {
-    match boxes_fault(labels, r, at, label) {
+    match boxes_fault(labels, r, placement, label) {
         Checked::Fault(f) => Boxing::Refused(f),
         Checked::Fine => {
             let n = grid::count_label(labels, label);
             match rooms_fault(n, points.len(), triangles.len()) {
                 Checked::Fault(f) => Boxing::Refused(f),
                 Checked::Fine => {
-                    write_boxes(labels, r, label, at, points, triangles);
+                    write_boxes(labels, r, label, placement, points, triangles);
                     Boxing::Boxed(n)
                 }
             }

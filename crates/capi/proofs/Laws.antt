@@ -9,7 +9,7 @@ use Rattle.grid.specs.declared.Checked.the-variants.{Fine, Fault}
 use Rattle.grid.specs.declared.Refusal.{Refusal}
 use Rattle.grid.specs.Answers.{faultIf, Outcome, Ends}
 use Rattle.fill.specs.declared.Mode.{Mode}
-use Rattle.fill.specs.declared.Counts.{Counts}
+use Rattle.fill.specs.declared.FillCounts.{FillCounts}
 use Rattle.fill.specs.Modes as fills
 use Rattle.fill.proofs.Laws.{fill-numbers}
 use Rattle.grid.specs.Flood.{Flooded}
@@ -17,17 +17,17 @@ use Rattle.edits.specs.Edits.{Edit}
 use Rattle.edits.specs.History.{Call}
 use Rattle.edits.proofs.Laws.{edit-numbers}
 use Rattle.grid.proofs.Checks.{no-fault, passed}
-use Rattle.listed.specs.Listed.{badRange, rangeFault, partOf}
-use Rattle.listed.proofs.Records.{part-length, part-good, part-bad}
-use Rattle.flat.specs.declared.Part.{Part}
-use Rattle.flat.proofs.Laws.{tells}
-use Rattle.flat.specs.Flat.{Flat, flatOf, Tells}
-use Rattle.flat.specs.Structs.{noFill, partAt}
+use Rattle.list_record.specs.Record.{badRange, rangeFault, listSlice}
+use Rattle.list_record.proofs.Records.{slice-length, slice-good, slice-bad}
+use Rattle.capi_flat.specs.declared.Slice.{Slice}
+use Rattle.capi_flat.proofs.Laws.{tells}
+use Rattle.capi_flat.specs.Flat.{Flat, flatOf, Tells}
+use Rattle.capi_flat.specs.Structs.{noFill, sliceAt}
 
 -- ---- the relations of fill and edits
 
 -- a fill's, where r is what the call was given for s
-pub fill-tells : (mode : Mode) (r s : Axes) (l m : List ℕ) (o : Outcome Counts) (f : Flat Counts) → r ≡ s → f ≡ flatOf noFill o
+pub fill-tells : (mode : Mode) (r s : Axes) (l m : List ℕ) (o : Outcome FillCounts) (f : Flat FillCounts) → r ≡ s → f ≡ flatOf noFill o
     → Ends (fills.fillFault r l) l (fills.Fills mode r l) o m → Ends (fills.fillFault r l) l (fills.Means mode r l) o m
     → Tells noFill (λ x. Ends (fills.fillFault s l) l (fills.Fills mode s l) x m) f × Tells noFill (λ x. Ends (fills.fillFault s l) l (fills.Means mode s l) x m) f
 fill-tells mode r s l m o f e p u v =
@@ -50,19 +50,19 @@ edit-tells r s d e l m o f h k p u v = (
 
 module _ (list : List ℕ) (start end : ℕ) where
   -- where a range lies, by whether it is bad
-  abbrev by : Bool → Part
+  abbrev by : Bool → Slice
   by bad = cond bad (record { start = 0; length = 0 }) (record { start = start; length = end - start })
 
-  pub part-there : rangeFault list start end ≡ Fine → start ≤ end
-  part-there h = part-length list start end h .0
+  pub slice-there : rangeFault list start end ≡ Fine → start ≤ end
+  slice-there h = slice-length list start end h .0
 
-  pub part-found : rangeFault list start end ≡ Fine → (record { start = start; length = end - start } ≡ partAt list start end) × (take (end - start) (drop start list) ≡ partOf list start end)
-  part-found h =
-      let w = part-length list start end h in
-      (ap by (sym (passed (badRange list start end) 15 0 Fine h .0)), sym (part-good list start end (w .0) (w .1)))
+  pub slice-found : rangeFault list start end ≡ Fine → (record { start = start; length = end - start } ≡ sliceAt list start end) × (take (end - start) (drop start list) ≡ listSlice list start end)
+  slice-found h =
+      let w = slice-length list start end h in
+      (ap by (sym (passed (badRange list start end) 15 0 Fine h .0)), sym (slice-good list start end (w .0) (w .1)))
 
-  pub part-missing : (f : Refusal) → rangeFault list start end ≡ Fault f → (record { start = 0; length = 0 } ≡ partAt list start end) × (take 0 (drop 0 list) ≡ partOf list start end)
-  part-missing f h = let b = bad (badRange list start end) h in (ap by (sym b), sym (part-bad list start end b))
+  pub slice-missing : (f : Refusal) → rangeFault list start end ≡ Fault f → (record { start = 0; length = 0 } ≡ sliceAt list start end) × (take 0 (drop 0 list) ≡ listSlice list start end)
+  slice-missing f h = let b = bad (badRange list start end) h in (ap by (sym b), sym (slice-bad list start end b))
     where
       bad : (b : Bool) → faultIf b 15 0 Fine ≡ Fault f → b ≡ true
       bad true e = refl

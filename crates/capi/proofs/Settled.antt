@@ -11,7 +11,7 @@ use Rattle.sizing.proofs.Ranges.{size-numbers, resolution-numbers}
 use Rattle.marking.specs.Marked.{markAnswer}
 use Rattle.marking.proofs.Laws.{mark-numbers}
 use Rattle.fill.specs.declared.Mode.{Mode}
-use Rattle.fill.specs.declared.Counts as fill-counts
+use Rattle.fill.specs.declared.FillCounts as fill-counts
 use Rattle.fill.specs.declared.Filling.{Filling}
 use Rattle.fill.specs.declared.Filling.the-variants as filling
 use Rattle.fill.specs.Modes as fills
@@ -24,8 +24,8 @@ use Rattle.edits.specs.History.{Call}
 use Rattle.edits.proofs.Laws as edit-laws
 use Rattle.list.specs.List.{cellsAnswer}
 use Rattle.list.proofs.Laws.{list-numbers}
-use Rattle.pairs.specs.Paired.{pairsAnswer}
-use Rattle.pairs.proofs.Laws.{pairs-numbers}
+use Rattle.list_pairs.specs.Paired.{pairsAnswer}
+use Rattle.list_pairs.proofs.Laws.{pairs-numbers}
 use Rattle.classes.specs.Classes.{classAnswer}
 use Rattle.classes.proofs.Laws.{classify-numbers}
 use Rattle.planes.specs.Planes.{planesAnswer}
@@ -33,26 +33,26 @@ use Rattle.planes.specs.Split.{splitAnswer}
 use Rattle.planes.proofs.Laws.{planes-numbers, split-numbers}
 use Rattle.boxes.specs.Boxes.{boxesAnswer}
 use Rattle.boxes.proofs.Laws.{boxes-numbers}
-use Rattle.listed.specs.Listed.{badRange, rangeFault}
+use Rattle.list_record.specs.Record.{badRange, rangeFault}
 use Rattle.grid.proofs.Checks.{finds-if, gives-unless}
 use Rattle.grid.specs.declared.Checked.the-variants.{Fine}
-use Rattle.summary.specs.Summary.{Summarizes}
-use Rattle.summary.proofs.Once.{summary-one}
-use Rattle.records.specs.declared.Writing.{Writing}
-use Rattle.records.specs.declared.Writing.the-variants as writing
-use Rattle.records.specs.Records as records
-use Rattle.records.proofs.Laws as record-laws
-use Rattle.flat.specs.declared.Filled.{Filled}
-use Rattle.flat.specs.declared.Summarized.{Summarized}
-use Rattle.flat.specs.declared.Counted.{Counted}
-use Rattle.flat.specs.Flat.{flatOf, heard, Tells}
-use Rattle.flat.specs.Structs.{filled, counted, summarized, noGrid, noFill, noList, noPlanes, noSides, noSummary, asAnswer}
-use Rattle.flat.proofs.Laws.{heard-flat, tells-one, filled-one, counted-one, summarized-one}
+use Rattle.program_summary.specs.Summary.{Summarizes}
+use Rattle.program_summary.proofs.Once.{summary-one}
+use Rattle.program.specs.declared.Writing.{Writing}
+use Rattle.program.specs.declared.Writing.the-variants as writing
+use Rattle.program.specs.Records as records
+use Rattle.program.proofs.Laws as record-laws
+use Rattle.capi_flat.specs.declared.Filled.{Filled}
+use Rattle.capi_flat.specs.declared.Summarized.{Summarized}
+use Rattle.capi_flat.specs.declared.Counted.{Counted}
+use Rattle.capi_flat.specs.Flat.{flatOf, heard, Tells}
+use Rattle.capi_flat.specs.Structs.{filled, counted, summarized, noGrid, noFill, noList, noPlanes, noSides, noSummary, asAnswer}
+use Rattle.capi_flat.proofs.Laws.{heard-flat, tells-one, filled-one, counted-one, summarized-one}
 
 -- ---- fill and edits
 
 -- every outcome of a fill is one of its cases
-as-filling : (o : Outcome fill-counts.Counts) → (f : Filling) × (fills.outcome f ≡ o)
+as-filling : (o : Outcome fill-counts.FillCounts) → (f : Filling) × (fills.outcome f ≡ o)
 as-filling (answers n) = (filling.Filled n, refl)
 as-filling (refuses n place) = (filling.Refused (record { number = n; place = place }), refl)
 
@@ -62,10 +62,10 @@ pub fill-settled : (mode : Mode) (r : grid-axes.Axes) (l : List ℕ) (a b : Fill
     → (a ≡ b) × (m ≡ n)
 fill-settled mode r l a b m n p q = let w = tells-one noFill Allowed one (filled a) (filled b) m n p q in (filled-one a b (w .0), w .1)
   where
-    Allowed : Outcome fill-counts.Counts → List ℕ → Type 0
+    Allowed : Outcome fill-counts.FillCounts → List ℕ → Type 0
     Allowed o x = Ends (fills.fillFault r l) l (fills.Fills mode r l) o x
 
-    one : (o p : Outcome fill-counts.Counts) (x y : List ℕ) → Allowed o x → Allowed p y → (o ≡ p) × (x ≡ y)
+    one : (o p : Outcome fill-counts.FillCounts) (x y : List ℕ) → Allowed o x → Allowed p y → (o ≡ p) × (x ≡ y)
     one o p x y u v =
         let f = as-filling o in
         let g = as-filling p in
@@ -117,16 +117,16 @@ size-heard ps size = heard-flat noGrid (1 ∷ 2 ∷ 3 ∷ 5 ∷ 8 ∷ []) (bySiz
 pub resolution-heard : (ps : List Float) (r : ℕ) → heard (flatOf noGrid (byResolution ps r)) ≡ byResolution ps r
 resolution-heard ps r = heard-flat noGrid (1 ∷ 2 ∷ 3 ∷ 6 ∷ 7 ∷ []) (byResolution ps r) refl (resolution-numbers ps r)
 
-pub mark-heard : (ps : List Float) (ts : List ℕ) (r : grid-axes.Axes) (at : grid-placement.Placement) (l : List ℕ)
-    → heard (flatOf tt (markAnswer ps ts r at l)) ≡ markAnswer ps ts r at l
-mark-heard ps ts r at l = heard-flat tt (1 ∷ 2 ∷ 3 ∷ 4 ∷ 5 ∷ 8 ∷ 9 ∷ 10 ∷ []) (markAnswer ps ts r at l) refl (mark-numbers ps ts r at l)
+pub mark-heard : (ps : List Float) (ts : List ℕ) (r : grid-axes.Axes) (placement : grid-placement.Placement) (l : List ℕ)
+    → heard (flatOf tt (markAnswer ps ts r placement l)) ≡ markAnswer ps ts r placement l
+mark-heard ps ts r placement l = heard-flat tt (1 ∷ 2 ∷ 3 ∷ 4 ∷ 5 ∷ 8 ∷ 9 ∷ 10 ∷ []) (markAnswer ps ts r placement l) refl (mark-numbers ps ts r placement l)
 
 pub list-heard : (l : List ℕ) (r : grid-axes.Axes) (o : List ℕ) → heard (flatOf noList (cellsAnswer l r o)) ≡ cellsAnswer l r o
 list-heard l r o = heard-flat noList (8 ∷ 9 ∷ 11 ∷ 14 ∷ []) (cellsAnswer l r o) refl (list-numbers l r o)
 
-pub pairs-heard : (ps : List Float) (ts : List ℕ) (r : grid-axes.Axes) (at : grid-placement.Placement) (l o q : List ℕ)
-    → heard (flatOf noList (pairsAnswer ps ts r at l o q)) ≡ pairsAnswer ps ts r at l o q
-pairs-heard ps ts r at l o q = heard-flat noList (1 ∷ 2 ∷ 3 ∷ 4 ∷ 5 ∷ 8 ∷ 9 ∷ 10 ∷ 11 ∷ 14 ∷ []) (pairsAnswer ps ts r at l o q) refl (pairs-numbers ps ts r at l o q)
+pub pairs-heard : (ps : List Float) (ts : List ℕ) (r : grid-axes.Axes) (placement : grid-placement.Placement) (l o q : List ℕ)
+    → heard (flatOf noList (pairsAnswer ps ts r placement l o q)) ≡ pairsAnswer ps ts r placement l o q
+pairs-heard ps ts r placement l o q = heard-flat noList (1 ∷ 2 ∷ 3 ∷ 4 ∷ 5 ∷ 8 ∷ 9 ∷ 10 ∷ 11 ∷ 14 ∷ []) (pairsAnswer ps ts r placement l o q) refl (pairs-numbers ps ts r placement l o q)
 
 pub range-heard : (list : List ℕ) (start end : ℕ) → heard (flatOf tt (asAnswer (rangeFault list start end))) ≡ asAnswer (rangeFault list start end)
 range-heard list start end =
@@ -136,14 +136,14 @@ range-heard list start end =
 pub classes-heard : (entries ends : List ℕ) (count : ℕ) (o : List ℕ) → heard (flatOf tt (classAnswer entries ends count o)) ≡ classAnswer entries ends count o
 classes-heard entries ends count o = heard-flat tt (1 ∷ 4 ∷ 14 ∷ 15 ∷ []) (classAnswer entries ends count o) refl (classify-numbers entries ends count o)
 
-pub planes-heard : (at : grid-placement.Placement) (axis low high best step : ℕ) (o : List Float)
-    → heard (flatOf noPlanes (planesAnswer at axis low high best step o)) ≡ planesAnswer at axis low high best step o
-planes-heard at axis low high best step o =
-    heard-flat noPlanes (3 ∷ 5 ∷ 12 ∷ 14 ∷ []) (planesAnswer at axis low high best step o) refl (planes-numbers at axis low high best step o)
+pub planes-heard : (placement : grid-placement.Placement) (axis low high best step : ℕ) (o : List Float)
+    → heard (flatOf noPlanes (planesAnswer placement axis low high best step o)) ≡ planesAnswer placement axis low high best step o
+planes-heard placement axis low high best step o =
+    heard-flat noPlanes (3 ∷ 5 ∷ 12 ∷ 14 ∷ []) (planesAnswer placement axis low high best step o) refl (planes-numbers placement axis low high best step o)
 
 pub split-heard : (ps : List Float) (axis : ℕ) (d : Float) (above below : List Float) → heard (flatOf noSides (splitAnswer ps axis d above below)) ≡ splitAnswer ps axis d above below
 split-heard ps axis d above below = heard-flat noSides (1 ∷ 3 ∷ 12 ∷ 14 ∷ []) (splitAnswer ps axis d above below) refl (split-numbers ps axis d above below)
 
-pub boxes-heard : (l : List ℕ) (r : grid-axes.Axes) (at : grid-placement.Placement) (label : ℕ) (ps : List Float) (ts : List ℕ)
-    → heard (flatOf 0 (boxesAnswer l r at label ps ts)) ≡ boxesAnswer l r at label ps ts
-boxes-heard l r at label ps ts = heard-flat 0 (3 ∷ 5 ∷ 8 ∷ 9 ∷ 11 ∷ 14 ∷ []) (boxesAnswer l r at label ps ts) refl (boxes-numbers l r at label ps ts)
+pub boxes-heard : (l : List ℕ) (r : grid-axes.Axes) (placement : grid-placement.Placement) (label : ℕ) (ps : List Float) (ts : List ℕ)
+    → heard (flatOf 0 (boxesAnswer l r placement label ps ts)) ≡ boxesAnswer l r placement label ps ts
+boxes-heard l r placement label ps ts = heard-flat 0 (3 ∷ 5 ∷ 8 ∷ 9 ∷ 11 ∷ 14 ∷ []) (boxesAnswer l r placement label ps ts) refl (boxes-numbers l r placement label ps ts)

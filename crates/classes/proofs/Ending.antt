@@ -14,10 +14,10 @@ use Rattle.grid.specs.Grid.{firstOnes}
 use Rattle.grid.proofs.Cells.{dec-eq, ones-length, ones-at}
 use Rattle.grid.proofs.Checks.{passed, both-fine, or-false, fault-not, first-fine}
 use Rattle.grid.proofs.First.{le-or-lt, Looking, looking-on, looking-here, looking-done, before-first, every-all, every-passes}
-use Rattle.mesh.specs.Faults.{names}
+use Rattle.marking_mesh.specs.Faults.{names}
 use Rattle.order.specs.Output.{roomFault}
 use Rattle.order.proofs.Outputs.{room-fine}
-use Rattle.classes.specs.Classes.{beginOf, endOf, badEnd, firstBadEnd, endsFault, countFault, entryFault, classFault, Named, Ended}
+use Rattle.classes.specs.Classes.{beginOf, endOf, badEnd, firstBadEnd, endsFault, countFault, entryFault, classFault, NamedBelow, Ended}
 
 and-false : (a b : Bool) → a ≡ true → (a && b) ≡ false → b ≡ false
 and-false a b e h = sym (ap (λ (t : Bool). t && b) e) ∙ h
@@ -134,7 +134,7 @@ module _ (ends : List ℕ) (len : ℕ) where
 
 -- ---- what no fault of the call says
 
-pub class-fine : (entries ends : List ℕ) (count len : ℕ) → classFault entries ends count len ≡ Fine → Named entries count × (count ≤ len) × Ended ends (length entries)
+pub class-fine : (entries ends : List ℕ) (count len : ℕ) → classFault entries ends count len ≡ Fine → NamedBelow entries count × (count ≤ len) × Ended ends (length entries)
 class-fine entries ends count len h =
     let a = both-fine (countFault count) (entryFault count entries andThen roomFault len count andThen endsFault ends (length entries)) h in
     let b = both-fine (entryFault count entries) (roomFault len count andThen endsFault ends (length entries)) (a .1) in

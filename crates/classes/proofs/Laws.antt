@@ -11,7 +11,7 @@ use Rattle.grid.specs.declared.Checked.the-variants.{Fine}
 use Rattle.grid.specs.Answers.{answers, refuses, Finds, Gives}
 use Rattle.grid.proofs.Cells.{ones-at}
 use Rattle.grid.proofs.Checks.{finds-if, finds-then, finds-first, gives-unless}
-use Rattle.mesh.specs.Faults.{names}
+use Rattle.marking_mesh.specs.Faults.{names}
 use Rattle.order.specs.Output.{roomFault}
 use Rattle.order.proofs.Lists.{Which, none, one, more, which}
 use Rattle.order.proofs.Outputs.{finds-room, refused-same}

@@ -16,7 +16,7 @@ use Rattle.order.specs.Order.{chosen}
 use Rattle.order.specs.Output.{Written, over}
 use Rattle.order.proofs.Lists.{Which, none, one, more, which, chosen-with, chosen-without}
 use Rattle.order.proofs.Outputs.{written-over}
-use Rattle.classes.specs.Classes.{beginOf, endOf, someEntry, partNames, noClass, several, classBy, partsOf, withPart, Named, Ended, Classes, Classified}
+use Rattle.classes.specs.Classes.{beginOf, endOf, someEntry, partNames, noClass, several, classBy, partsOf, withPart, NamedBelow, Ended, Classes, Classified}
 
 -- ---- a class and one part more
 
@@ -185,7 +185,7 @@ module _ (entries ends : List ℕ) (count : ℕ) where
       go true e = sym (class-with ok p (chosen ok p) h (which ok p)) ∙ ap classBy (sym (chosen-with ok p e))
       go false e = ap classBy (sym (chosen-without ok p e))
 
-  module _ (named : Named entries count) (ended : Ended ends (length entries)) (p : ℕ) (h : p < length ends) where
+  module _ (named : NamedBelow entries count) (ended : Ended ends (length entries)) (p : ℕ) (h : p < length ends) where
     unnamed : (t : ℕ) → count ≤ t → partNames entries ends p t ≡ false
     unnamed t l = go (partNames entries ends p t) refl
       where

@@ -11,7 +11,8 @@ use Rattle.grid.specs.Answers.{Outcome, answers, refuses, faultIf, _andThen_, u
 use Rattle.grid.specs.First.{firstNot, someBelow}
 use Rattle.grid.specs.Grid.{firstOnes}
 use Rattle.grid.specs.Checks.{firstFault}
-use Rattle.mesh.specs.Faults.{names}
+use Rattle.grid.specs.Refusals.{BAD-COUNT, MISSING-NAME, BAD-RANGE}
+use Rattle.marking_mesh.specs.Faults.{names}
 use Rattle.order.specs.Order.{chosen}
 use Rattle.order.specs.Output.{roomFault, over}
 use Rattle.classes.specs.declared.Classing.{Classing}
@@ -69,11 +70,11 @@ classesOf entries ends count = firstOnes count (classOf entries ends)
 
 -- "1: .. more than 65,536 of either (in classes: the triangle count)"
 abbrev pub countFault : ℕ → Checked
-countFault count = faultIf (ltb 65536 count) 1 0 Fine
+countFault count = faultIf (ltb 65536 count) BAD-COUNT 0 Fine
 
 -- "4: .. in classes, an entry names a missing triangle"; the place is the entry
 abbrev pub entryFault : ℕ → List ℕ → Checked
-entryFault count entries = firstFault 4 (λ n. n) (names count) entries
+entryFault count entries = firstFault MISSING-NAME (λ n. n) (names count) entries
 
 -- "15: part ends fall back, do not end at the list's length (no parts: list not empty), or number over 65,535"; the place is the part end: of a fall the end that falls, of a stray last end the last, of too many the one past 65,535
 abbrev pub badEnd : List ℕ → ℕ → ℕ → Bool
@@ -85,7 +86,7 @@ firstBadEnd ends len = firstNot (λ p. not (badEnd ends len p)) (firstOnes (leng
 
 abbrev pub endsFault : List ℕ → ℕ → Checked
 endsFault ends len =
-    faultIf (ltb (firstBadEnd ends len) (length ends) || (eqb (length ends) 0 && not (eqb len 0))) 15 (firstBadEnd ends len) Fine
+    faultIf (ltb (firstBadEnd ends len) (length ends) || (eqb (length ends) 0 && not (eqb len 0))) BAD-RANGE (firstBadEnd ends len) Fine
 
 -- the whole call: 1, 4, 14 and 15, of an output of length len
 abbrev pub classFault : List ℕ → List ℕ → ℕ → ℕ → Checked
@@ -104,7 +105,7 @@ unfoldable pub withPart : ℕ → ℕ → ℕ
 withPart part class = cond (eqb class noClass) part (cond (eqb class part) class several)
 
 -- every entry is below n
-pub record Named (entries : List ℕ) (n : ℕ) : Type 0 where
+pub record NamedBelow (entries : List ℕ) (n : ℕ) : Type 0 where
   pub names : (e : ℕ) → e < length entries → getD entries e 0 < n
 
 -- ends without fault

@@ -2,7 +2,7 @@
 ghost use mathlib.Core.Path.{_≡_};
 ghost use Prim.Native.Nat.{_≤_, _<_};
 ghost use lib.ListN.{length};
-ghost use Rattle.classes.specs.Classes.{beginOf, badEnd, firstBadEnd, endsFault, countFault, entryFault, noClass, classOf, withPart, classFault, Named, Ended, Classes, Classified, outcome, classAnswer, classBuffer};
+ghost use Rattle.classes.specs.Classes.{beginOf, badEnd, firstBadEnd, endsFault, countFault, entryFault, noClass, classOf, withPart, classFault, NamedBelow, Ended, Classes, Classified, outcome, classAnswer, classBuffer};
 use grid::Checked;
 use grid::Refusal;
 
@@ -59,7 +59,7 @@ fn ends_fault(ends: &[u32], len: usize) -> Checked
 {
     let p = first_bad_end(ends, len);
     if (p < ends.len()) | ((ends.len() == 0) & (len != 0)) {
-        return grid::fault(15, p);
+        return grid::fault(grid::BAD_RANGE, p);
     }
     Checked::Fine
 }
@@ -69,7 +69,7 @@ fn count_fault(count: usize) -> Checked
     ensures { λ f. ⌜ f ≡ countFault count ⌝ }
 {
     if 65536 < count {
-        return grid::fault(1, 0);
+        return grid::fault(grid::BAD_COUNT, 0);
     }
     Checked::Fine
 }
@@ -78,9 +78,9 @@ fn count_fault(count: usize) -> Checked
 fn entry_fault(entries: &[u32], count: usize) -> Checked
     ensures { λ f. ⌜ f ≡ entryFault count (now (entries .entry)) ⌝ }
 {
-    let n = lent::first_missing(entries, count);
+    let n = marking_checks::first_missing(entries, count);
     if n < entries.len() {
-        return grid::fault(4, n);
+        return grid::fault(grid::MISSING_NAME, n);
     }
     Checked::Fine
 }
@@ -125,7 +125,7 @@ fn with_part(class: u32, part: u32) -> u32
 // The entries of one part.
 fn classify_part(classes: &mut [u32], entries: &[u32], from: usize, to: usize, part: u32)
     requires { ⌜ (from ≤ to) × (to ≤ length (now entries)) ⌝ }
-    requires { ⌜ Named (now entries) (length (now classes)) ⌝ }
+    requires { ⌜ NamedBelow (now entries) (length (now classes)) ⌝ }
     ensures { λ _. ⌜ Classified (now (entries .entry)) from to part (now (classes .entry)) (now (classes .exit)) ⌝ }
 {
     let mut e = from;
@@ -138,7 +138,7 @@ fn classify_part(classes: &mut [u32], entries: &[u32], from: usize, to: usize, p
 }
 
 fn classify_parts(classes: &mut [u32], entries: &[u32], ends: &[u32], count: usize)
-    requires { ⌜ Named (now entries) count × (count ≤ length (now classes)) ⌝ }
+    requires { ⌜ NamedBelow (now entries) count × (count ≤ length (now classes)) ⌝ }
     requires { ⌜ Ended (now ends) (length (now entries)) ⌝ }
     requires { ⌜ Classes count (λ t. noClass) (now classes) (now classes) ⌝ }
     ensures { λ _. ⌜ Classes count (classOf (now (entries .entry)) (now (ends .entry))) (now (classes .entry)) (now (classes .exit)) ⌝ }

@@ -17,15 +17,15 @@ use Rattle.grid.proofs.Cells.{dec-cell, not-both, num-lt, here, there, stored}
 use Rattle.grid.proofs.First.{le-or-lt}
 use Rattle.grid.proofs.Paths.{joined-in, joined-trans, joined-more}
 use Rattle.grid.proofs.Ways.{face-way}
-use Rattle.reach.specs.Walk.{wayOf}
-use Rattle.reach.proofs.Ways.{numberOf, way-numbered, numbered-low}
-use Rattle.settling.specs.declared.Settled.{Settled}
+use Rattle.edits_reach.specs.Reach.{wayOf}
+use Rattle.edits_reach.proofs.Ways.{numberOf, way-numbered, numbered-low}
+use Rattle.edits_settle.specs.declared.SealCounts.{SealCounts}
 use Rattle.edits.specs.Edits.{closing, lidded, HasWay, Closes, lid, sealed, stays, changed, Edited}
-use Rattle.settling.specs.Closing.{Map, FromBeside, Stands, as-was, marked, cut, Standing, Settles, Restores, isBelow}
-use Rattle.settling.proofs.Turned.{by-place, count-kept}
-use Rattle.settling.proofs.Restorings.{below-so, below-not}
+use Rattle.edits_settle.specs.Closing.{Map, FromBeside, Fate, as-was, marked, cut, Standing, Settles, Restores, isBelow}
+use Rattle.edits_settle.proofs.Turned.{by-place, count-kept}
+use Rattle.edits_settle.proofs.Restorings.{below-so, below-not}
 use Rattle.edits.proofs.Changes.{changed-count, changed-one}
-use Rattle.settling.proofs.Settlings.{way-on, through-label, through-keep}
+use Rattle.edits_settle.proofs.Settlings.{way-on, through-label, through-keep}
 
 module _ (r : Axes) (m : List ℕ) (c : Cell) (fits : Sheet r m) (mp : Map r m) (hc : InGrid r c) where
   abbrev m₈ : List ℕ
@@ -78,7 +78,7 @@ module _ (r : Axes) (m : List ℕ) (c : Cell) (fits : Sheet r m) (mp : Map r m) 
     now-8 : at r f c ≡ 8
     now-8 = of (st .each c hc)
       where
-        of : Stands r m₈ c l c → at r f c ≡ 8
+        of : Fate r m₈ c l c → at r f c ≡ 8
         of (as-was q) = back-same c hc 8 (omega arith) (q ∙ at-c)
         of (marked q s w) = absurd (not-both _ 8 6 (omega arith) at-c q)
         of (cut q s b w) = absurd (not-both _ 8 6 (omega arith) at-c q)
@@ -108,7 +108,7 @@ module _ (r : Axes) (m : List ℕ) (c : Cell) (fits : Sheet r m) (mp : Map r m) 
     spared : (x : Cell) → InGrid r x → at r l x ≡ at r m₈ x → FromBeside r m₈ c x → HasWay r m₈ x
     spared x h e (q, hq, g, p, u) = of (st .each q hq)
       where
-        of : Stands r m₈ c l q → HasWay r m₈ x
+        of : Fate r m₈ c l q → HasWay r m₈ x
         of (as-was a) =
             let w = face-way r c q hq g in
             let i = way-numbered (w .0) in
@@ -122,7 +122,7 @@ module _ (r : Axes) (m : List ℕ) (c : Cell) (fits : Sheet r m) (mp : Map r m) 
         same : at r m₈ d ≡ at r m d
         same = there r m 8 d c h hc z
 
-        of : Stands r m₈ c l d → Closes r m c d (at r f d)
+        of : Fate r m₈ c l d → Closes r m c d (at r f d)
         of (as-was a) = stays z (λ _ u. ⊎-elim (λ e. absurd (z e)) (λ b. spared d h a b) (side-of u)) (back-same d h (at r m₈ d) (high₈ d h) a ∙ same)
         of (marked a s w) = stays z (λ _ _. w) (back-mark d h s ∙ sym a ∙ same)
         of (cut a s b w) = sealed z was (from-side b) w (back-same d h 7 (omega arith) s)
@@ -131,7 +131,7 @@ module _ (r : Axes) (m : List ℕ) (c : Cell) (fits : Sheet r m) (mp : Map r m) 
     seven-new : (x : Cell) → InGrid r x → (at r f x ≡ at r m₈ x) ⊎ ((at r m₈ x ≡ 7 → ⊥) × (at r f x ≡ 7))
     seven-new x h = of (st .each x h)
       where
-        of : Stands r m₈ c l x → (at r f x ≡ at r m₈ x) ⊎ ((at r m₈ x ≡ 7 → ⊥) × (at r f x ≡ 7))
+        of : Fate r m₈ c l x → (at r f x ≡ at r m₈ x) ⊎ ((at r m₈ x ≡ 7 → ⊥) × (at r f x ≡ 7))
         of (as-was a) = inl (back-same x h (at r m₈ x) (high₈ x h) a)
         of (marked a s w) = inl (back-mark x h s ∙ sym a)
         of (cut a s b w) = inr (not-both _ 6 7 (omega arith) a, back-same x h 7 (omega arith) s)
@@ -159,7 +159,7 @@ module _ (r : Axes) (m : List ℕ) (c : Cell) (fits : Sheet r m) (mp : Map r m) 
     }
 
   -- as the code has it: i is c's number, and the neighbours are settled twice
-  pub closed-steps : (i : ℕ) → i ≡ num r c → getD m i 0 ≡ 6 → (a b f : List ℕ) (j k : Settled)
+  pub closed-steps : (i : ℕ) → i ≡ num r c → getD m i 0 ≡ 6 → (a b f : List ℕ) (j k : SealCounts)
       → Settles 0 6 r c false (set m i 8) a j → Settles 0 6 r c true a b k → Restores (isBelow 6) r c b f → Edited r m (closing c) (k .sealed + 1) f
   closed-steps i e six a b f j k s t u =
       let first = subst (λ (x : ℕ). Settles 0 6 r c false (set m x 8) a j) e s in

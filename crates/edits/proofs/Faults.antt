@@ -15,9 +15,9 @@ use Rattle.grid.specs.Checks.{takes, mapFault}
 use Rattle.grid.specs.Grid.{num, InGrid, at, Sheet}
 use Rattle.grid.proofs.Cells.{dec-eq, num-lt}
 use Rattle.grid.proofs.Checks.{both-fine, passed, taken-means, map-fine, finds-map, finds-if, finds-then}
-use Rattle.editable.proofs.Laws.{in-grid}
+use Rattle.edits_checks.proofs.Laws.{in-grid}
 use Rattle.edits.specs.Edits.{Edit, opening, closing, mapLabels, inGrid, wrongKind, cellFault, editFault}
-use Rattle.settling.specs.Closing.{Map}
+use Rattle.edits_settle.specs.Closing.{Map}
 
 takes-three : (v : ℕ) → takes mapLabels v ≡ true → (v ≡ 6) ⊎ ((v ≡ 7) ⊎ (v ≡ 8))
 takes-three v h = ⊎-elim (λ e. of (e .0) (e .1)) (λ e. of (e .0) (e .1)) (taken-means mapLabels v h)

@@ -21,7 +21,7 @@ use Rattle.grid.proofs.Cells.{dec-eq, not-both, num-lt, by-cell, sheet-kept}
 use Rattle.grid.proofs.Checks.{map-fine, fine-map, no-fault, ends-one, ends-same, ends-gives}
 use Rattle.grid.proofs.Floods.{surface-means, flooded-one}
 use Rattle.grid.proofs.Paths.{joined-kind}
-use Rattle.fill.specs.declared.Counts.{Counts}
+use Rattle.fill.specs.declared.FillCounts.{FillCounts}
 use Rattle.fill.specs.declared.Mode.the-variants.{Flood}
 use Rattle.fill.specs.Modes.{marks, fillFault, Means}
 use Rattle.grid.proofs.Passes.{map-at}
@@ -194,7 +194,7 @@ module _ (r : Axes) (l : List ℕ) (s : Sheet r l) (fl : Flooded r l l) where
   own-fresh : IsFresh r l
   own-fresh o f k = of (fillFault r (surfaces l)) o taken k
     where
-      of : (g : Checked) (o : Outcome Counts) → g ≡ Fine → Ends g (surfaces l) (Means Flood r (surfaces l)) o f → (n : Counts) × (o ≡ answers n) × (f ≡ l)
+      of : (g : Checked) (o : Outcome FillCounts) → g ≡ Fine → Ends g (surfaces l) (Means Flood r (surfaces l)) o f → (n : FillCounts) × (o ≡ answers n) × (f ≡ l)
       of Fine (answers n) q k = (n, refl, flooded-one r (surfaces l) f l (size ∙ s .size) (k .0) same)
       of Fine (refuses n p) q k = absurd k
       of (Fault g) o q k = absurd (no-fault g q)

@@ -1,4 +1,4 @@
--- An opening: what a walk that does not stop comes to, and the test for air. Assumes nothing.
+-- An opening: what a trip that does not stop comes to, and the test for air. Assumes nothing.
 use mathlib.Core.Bool.{false}
 use mathlib.Core.Logic.{_⊎_, inl, inr, ⊎-elim}
 use mathlib.Core.Path.{_≡_, refl, sym, ap, subst, _∙_}
@@ -13,21 +13,21 @@ use Rattle.grid.specs.Ways.{room, beside}
 use Rattle.grid.proofs.Cells.{dec-eq, not-both, num-lt, stored}
 use Rattle.grid.proofs.Paths.{joined-kind}
 use Rattle.grid.proofs.Ways.{beside-in, beside-face, face-way}
-use Rattle.reach.specs.declared.Seen.{Seen}
-use Rattle.reach.specs.declared.Trip.{Trip}
-use Rattle.reach.specs.Walk.{wayOf, Sees, Ready, Walked}
-use Rattle.reach.proofs.Tests.{true-false}
-use Rattle.reach.proofs.Weights.{count-more}
-use Rattle.reach.proofs.Ways.{numberOf, way-numbered, numbered-low, seen-room}
-use Rattle.settling.proofs.Turned.{by-place}
-use Rattle.settling.proofs.Settlings.{reached}
+use Rattle.edits_reach.specs.declared.Seen.{Seen}
+use Rattle.edits_reach.specs.declared.Trip.{Trip}
+use Rattle.edits_reach.specs.Reach.{wayOf, Sees, MayReach, Reaches}
+use Rattle.edits_reach.proofs.Tests.{true-false}
+use Rattle.edits_reach.proofs.Weights.{count-more}
+use Rattle.edits_reach.proofs.Ways.{numberOf, way-numbered, numbered-low, seen-room}
+use Rattle.edits_settle.proofs.Turned.{by-place}
+use Rattle.edits_settle.proofs.Settlings.{reached}
 use Rattle.edits.specs.Edits.{opening, MeetsAir, aired, unreached, alone, other, changed, Edited}
 use Rattle.edits.proofs.Changes.{changed-count}
 
--- how many labels a walk that does not stop changes
-module _ (r : Axes) (pass done : ℕ) (m : List ℕ) (s : Cell) (ok : Ready r pass done false m s) (e : List ℕ) (w : Trip) (k : Walked r pass done false m s e w) where
-  pub walk-changed : w .count ≡ changed m e
-  walk-changed =
+-- how many labels a trip that does not stop changes
+module _ (r : Axes) (pass done : ℕ) (m : List ℕ) (s : Cell) (ok : MayReach r pass done false m s) (e : List ℕ) (w : Trip) (k : Reaches r pass done false m s e w) where
+  pub trip-changed : w .count ≡ changed m e
+  trip-changed =
       let t = changed-count done m e (k .size) (by-place r m e (λ a b. (b ≡ a) ⊎ ((a ≡ done → ⊥) × (b ≡ done))) (ok .sheet .size) (λ x h. ⊎-elim
       (λ q. inr ((λ u. ⊎-elim (λ (i : x ≡ s). ok .fresh (ap (at r m) (sym i) ∙ u)) (λ i. ok .apart (sym u ∙ i)) (joined-kind (q .0))), q .1))
       (λ q. inl (q .1))
@@ -35,14 +35,14 @@ module _ (r : Axes) (pass done : ℕ) (m : List ℕ) (s : Cell) (ok : Ready r pa
       omega (arith, t, k .counted)
 
 module _ (r : Axes) (m : List ℕ) (c : Cell) (fits : Sheet r m) (hc : InGrid r c) (was : at r m c ≡ 8) where
-  pub open-ready : Ready r 7 6 false m c
+  pub open-ready : MayReach r 7 6 false m c
   open-ready = record { sheet = fits; inside = hc; pass-low = omega arith; done-low = omega arith; apart = omega arith; fresh = not-both _ 8 6 (omega arith) was; firm = λ q. absurd (true-false q refl) }
 
-  pub opened : (e : List ℕ) (w : Trip) → MeetsAir r m c → Walked r 7 6 false m c e w → Edited r m (opening c) (w .count) e
+  pub opened : (e : List ℕ) (w : Trip) → MeetsAir r m c → Reaches r 7 6 false m c e w → Edited r m (opening c) (w .count) e
   opened e w t k = record {
     size = k .size;
     each = λ d h. ⊎-elim (λ q. aired t (q .0) (q .1)) (λ q. unreached t (q .0) (q .1)) (reached r 7 6 m c open-ready e w k d h);
-    counted = walk-changed r 7 6 m c open-ready e w k;
+    counted = trip-changed r 7 6 m c open-ready e w k;
   }
 
   pub opened-alone : (i : ℕ) → i ≡ num r c → (MeetsAir r m c → ⊥) → Edited r m (opening c) 1 (set m i 7)

@@ -13,10 +13,11 @@ use Rattle.grid.specs.Answers.{Outcome, answers, refuses, _andThen_}
 use Rattle.grid.specs.Checks.{mapFault}
 use Rattle.grid.specs.Grid.{InGrid, num, at, Face, Border}
 use Rattle.grid.specs.Paths.{Through}
+use Rattle.grid.specs.Labels.{OUTSIDE, INSIDE, SURFACE}
 use Rattle.edits.specs.declared.Editing.{Editing}
 use Rattle.edits.specs.declared.Editing.the-variants.{Changed, Refused}
-pub use Rattle.editable.specs.Editable.{mapLabels, inGrid, wrongKind, cellFault}
-pub use Rattle.settling.specs.Closing.{HasWay}
+pub use Rattle.edits_checks.specs.Editable.{mapLabels, inGrid, wrongKind, cellFault}
+pub use Rattle.edits_settle.specs.Closing.{HasWay}
 
 -- 01's number and values for each case of `Editing`: "Each reports how many labels changed"
 abbrev pub outcome : Editing → Outcome ℕ
@@ -38,24 +39,24 @@ editFault r l (closing c) = mapFault mapLabels r l andThen cellFault r l c false
 
 -- "c is on the border or has a face neighbour 6"
 abbrev pub MeetsAir : Axes → List ℕ → Cell → Type 0
-MeetsAir r l c = Border r c ⊎ ((d : Cell) × InGrid r d × Face c d × (at r l d ≡ 6))
+MeetsAir r l c = Border r c ⊎ ((d : Cell) × InGrid r d × Face c d × (at r l d ≡ OUTSIDE))
 
 -- the label v of cell d after c was opened. "Open c: if c is on the border or has a face neighbour 6, then c and every 7 reached from it through cells 7 become 6. Otherwise c becomes 7."
 pub data Opens (r : Axes) (l : List ℕ) (c d : Cell) (v : ℕ) : Type 0 where
-  aired : MeetsAir r l c → Through r l 7 c d → v ≡ 6 → Opens r l c d v
-  unreached : MeetsAir r l c → (Through r l 7 c d → ⊥) → v ≡ at r l d → Opens r l c d v
-  alone : (MeetsAir r l c → ⊥) → d ≡ c → v ≡ 7 → Opens r l c d v
+  aired : MeetsAir r l c → Through r l INSIDE c d → v ≡ OUTSIDE → Opens r l c d v
+  unreached : MeetsAir r l c → (Through r l INSIDE c d → ⊥) → v ≡ at r l d → Opens r l c d v
+  alone : (MeetsAir r l c → ⊥) → d ≡ c → v ≡ INSIDE → Opens r l c d v
   other : (MeetsAir r l c → ⊥) → (d ≡ c → ⊥) → v ≡ at r l d → Opens r l c d v
 
 -- "c becomes 8"
 abbrev pub lidded : Axes → List ℕ → Cell → List ℕ
-lidded r l c = set l (num r c) 8
+lidded r l c = set l (num r c) SURFACE
 
 -- the label v of cell d after c was closed. "Close c: c becomes 8. If it was 6, each other cell 6 that was joined to c through cells 6 and now has no path of cells 6 to a border cell becomes 7."
 pub data Closes (r : Axes) (l : List ℕ) (c d : Cell) (v : ℕ) : Type 0 where
-  lid : d ≡ c → v ≡ 8 → Closes r l c d v
-  sealed : (d ≡ c → ⊥) → at r l c ≡ 6 → Through r l 6 c d → (HasWay r (lidded r l c) d → ⊥) → v ≡ 7 → Closes r l c d v
-  stays : (d ≡ c → ⊥) → (at r l c ≡ 6 → Through r l 6 c d → HasWay r (lidded r l c) d) → v ≡ at r l d → Closes r l c d v
+  lid : d ≡ c → v ≡ SURFACE → Closes r l c d v
+  sealed : (d ≡ c → ⊥) → at r l c ≡ OUTSIDE → Through r l OUTSIDE c d → (HasWay r (lidded r l c) d → ⊥) → v ≡ INSIDE → Closes r l c d v
+  stays : (d ≡ c → ⊥) → (at r l c ≡ OUTSIDE → Through r l OUTSIDE c d → HasWay r (lidded r l c) d) → v ≡ at r l d → Closes r l c d v
 
 abbrev pub Becomes : Axes → List ℕ → Edit → Cell → ℕ → Type 0
 Becomes r l (opening c) = Opens r l c

@@ -6,7 +6,8 @@ use Prim.Native.Nat.{ℕ}
 use lib.Dec.{eqb}
 use Rattle.grid.specs.declared.Axes.{Axes}
 use Rattle.grid.specs.Answers.{Outcome, answers, Ends}
-use Rattle.fill.specs.declared.Counts.{Counts}
+use Rattle.grid.specs.Labels.{UNDEFINED, SURFACE}
+use Rattle.fill.specs.declared.FillCounts.{FillCounts}
 use Rattle.fill.specs.declared.Mode.the-variants.{Flood}
 use Rattle.fill.specs.Modes.{fillFault, Means}
 use Rattle.edits.specs.Edits.{Edit, editFault, Edited}
@@ -22,12 +23,12 @@ pub data After (r : Axes) (start : List ℕ) : List Edit → List ℕ → Type 0
 
 -- "such a map": one that `fill` promises without cavities
 abbrev pub IsFill : Axes → List ℕ → Type 0
-IsFill r l = (marks : List ℕ) × (n : Counts) × Ends (fillFault r marks) marks (Means Flood r marks) (answers n) l
+IsFill r l = (marks : List ℕ) × (n : FillCounts) × Ends (fillFault r marks) marks (Means Flood r marks) (answers n) l
 
 -- "the surface cells as they then stand", as marks
 abbrev pub surfaces : List ℕ → List ℕ
-surfaces l = map (λ v. cond (eqb v 8) 8 0) l
+surfaces l = map (λ v. cond (eqb v SURFACE) SURFACE UNDEFINED) l
 
 -- "every label equals a fresh fill": whatever `fill` promises of these marks without cavities, it is this map, and it is no refusal
 abbrev pub IsFresh : Axes → List ℕ → Type 0
-IsFresh r l = (o : Outcome Counts) (f : List ℕ) → Ends (fillFault r (surfaces l)) (surfaces l) (Means Flood r (surfaces l)) o f → (n : Counts) × (o ≡ answers n) × (f ≡ l)
+IsFresh r l = (o : Outcome FillCounts) (f : List ℕ) → Ends (fillFault r (surfaces l)) (surfaces l) (Means Flood r (surfaces l)) o f → (n : FillCounts) × (o ≡ answers n) × (f ≡ l)

@@ -4,12 +4,16 @@ ghost use mathlib.Core.Bool.{true, false};
 ghost use Rattle.grid.specs.Answers.{Ends};
 ghost use Rattle.grid.specs.Flood.{Flooded};
 ghost use Rattle.grid.specs.Grid.{num, InGrid, at, Sheet};
-ghost use Rattle.settling.specs.Closing.{Map};
+ghost use Rattle.grid.specs.Labels.{SURFACE};
+ghost use Rattle.edits_settle.specs.Closing.{Map};
 ghost use Rattle.edits.specs.Edits.{opening, closing, outcome, editFault, MeetsAir, Edited};
 use grid::Axes;
 use grid::Cell;
 use grid::Checked;
+use grid::INSIDE;
+use grid::OUTSIDE;
 use grid::Refusal;
+use grid::SURFACE;
 
 // What an edit answers: how many labels changed; the edit itself is in the labels.
 pub enum Editing {
@@ -29,9 +33,9 @@ fn meets_air(l: &[u8], r: Axes, c: Cell, n: usize) -> bool
         return true;
     }
     let mut d = 0u8;
-    while d < 6 {
-        let a = reach::look(l, r, c, n, d);
-        if a.label == 6 {
+    while d < edits_reach::WAYS {
+        let a = edits_reach::look(l, r, c, n, d);
+        if a.label == OUTSIDE {
             return true;
         }
         d += 1;
@@ -41,15 +45,15 @@ fn meets_air(l: &[u8], r: Axes, c: Cell, n: usize) -> bool
 
 fn open_surface(l: &mut [u8], r: Axes, c: Cell) -> usize
     requires { ⌜ Sheet r (now l) ⌝ }
-    requires { ⌜ InGrid r c × (at r (now l) c ≡ 8) ⌝ }
+    requires { ⌜ InGrid r c × (at r (now l) c ≡ SURFACE) ⌝ }
     ensures { λ n. ⌜ Edited r (now (l .entry)) (opening c) n (now (l .exit)) ⌝ }
 {
     let n = grid::number(r, c);
     if meets_air(l, r, c, n) {
-        let w = reach::walk(l, r, c, 7, 6, false);
+        let w = edits_reach::reach(l, r, c, INSIDE, OUTSIDE, false);
         return w.count;
     }
-    l[n] = 7;
+    l[n] = INSIDE;
     1
 }
 
@@ -57,19 +61,19 @@ fn open_surface(l: &mut [u8], r: Axes, c: Cell) -> usize
 
 fn close_open(l: &mut [u8], r: Axes, c: Cell) -> usize
     requires { ⌜ Sheet r (now l) × Map r (now l) ⌝ }
-    requires { ⌜ InGrid r c × (at r (now l) c ≡ 8 → ⊥) ⌝ }
+    requires { ⌜ InGrid r c × (at r (now l) c ≡ SURFACE → ⊥) ⌝ }
     ensures { λ n. ⌜ Edited r (now (l .entry)) (closing c) n (now (l .exit)) ⌝ }
 {
     let n = grid::number(r, c);
     let v = l[n];
-    l[n] = 8;
-    if v != 6 {
+    l[n] = SURFACE;
+    if v != OUTSIDE {
         return 1;
     }
-    let seen = settling::settle_all(l, r, c, n, false);
-    let walked = settling::settle_all(l, r, c, n, true);
-    settling::restore_all(l, r, c, n, seen.marked + walked.marked);
-    walked.sealed + 1
+    let seen = edits_settle::settle_all(l, r, c, n, false);
+    let tried = edits_settle::settle_all(l, r, c, n, true);
+    edits_settle::restore_all(l, r, c, n, seen.marked + tried.marked);
+    tried.sealed + 1
 }
 
 // ---- the calls
@@ -79,7 +83,7 @@ pub fn open_cell(labels: &mut [u8], r: Axes, c: Cell) -> Editing
     ensures { λ a. ⌜ Ends (editFault r (now (labels .entry)) (opening c)) (now (labels .entry)) (Edited r (now (labels .entry)) (opening c)) (outcome a) (now (labels .exit)) ⌝ }
     ensures { λ a. ⌜ (Flooded r (now (labels .entry)) (now (labels .entry)) → Flooded r (now (labels .exit)) (now (labels .exit))) ⌝ }
 {
-    match editable::edit_fault(labels, r, c, true) {
+    match edits_checks::edit_fault(labels, r, c, true) {
         Checked::Fault(f) => Editing::Refused(f),
         Checked::Fine => Editing::Changed(open_surface(labels, r, c)),
     }
@@ -90,7 +94,7 @@ pub fn close_cell(labels: &mut [u8], r: Axes, c: Cell) -> Editing
     ensures { λ a. ⌜ Ends (editFault r (now (labels .entry)) (closing c)) (now (labels .entry)) (Edited r (now (labels .entry)) (closing c)) (outcome a) (now (labels .exit)) ⌝ }
     ensures { λ a. ⌜ (Flooded r (now (labels .entry)) (now (labels .entry)) → Flooded r (now (labels .exit)) (now (labels .exit))) ⌝ }
 {
-    match editable::edit_fault(labels, r, c, false) {
+    match edits_checks::edit_fault(labels, r, c, false) {
         Checked::Fault(f) => Editing::Refused(f),
         Checked::Fine => Editing::Changed(close_open(labels, r, c)),
     }

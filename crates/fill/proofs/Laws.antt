@@ -11,8 +11,8 @@ use Rattle.grid.specs.Flood.{NoSurface, Aired}
 use Rattle.grid.specs.Grid.{InGrid, at}
 use Rattle.grid.proofs.Checks.{finds-map, ends-one, ends-same, ends-gives}
 use Rattle.grid.proofs.Floods.{surface-means, outside-means, inside-means}
-use Rattle.spread.proofs.Runs.{run-one}
-use Rattle.fill.specs.declared.Counts.{Counts}
+use Rattle.fill_walks.proofs.Runs.{run-one}
+use Rattle.fill.specs.declared.FillCounts.{FillCounts}
 use Rattle.fill.specs.declared.Filling.{Filling}
 use Rattle.fill.specs.declared.Filling.the-variants.{Filled, Refused}
 use Rattle.fill.specs.declared.Mode.{Mode}
@@ -24,7 +24,7 @@ use Rattle.fill.proofs.Swings.{alternate-one}
 
 -- ---- which numbers fill gives: 8, 9 and 11
 
-pub fill-numbers : (mode : Mode) (r : Axes) (l m : List ℕ) (o : Outcome Counts) → Ends (fillFault r l) l (Fills mode r l) o m → Gives (8 ∷ 9 ∷ 11 ∷ []) o
+pub fill-numbers : (mode : Mode) (r : Axes) (l m : List ℕ) (o : Outcome FillCounts) → Ends (fillFault r l) l (Fills mode r l) o m → Gives (8 ∷ 9 ∷ 11 ∷ []) o
 fill-numbers mode r l m o e = ends-gives _ (fillFault r l) l (Fills mode r l) o m (finds-map _ marks r l tt tt tt) e
 
 -- a refusal leaves every label
@@ -40,10 +40,10 @@ scans-one Flood r l a b i j p q =
     (p .labels ∙ ap (map (becomes 0 0 7)) (u .0) ∙ sym (q .labels), u .1)
 scans-one Cavities r l a b i j p q =
     let u = run-one (outward 4) r (p .phase) (q .phase) in
-    let v = alternate-one r (subst (λ (x : List ℕ). Alternate r _ x (p .ended) (p .later)) (u .0) (p .turns)) (q .turns) in
+    let v = alternate-one r (subst (λ (x : List ℕ). Alternate r _ x (p .ended) (p .later)) (u .0) (p .alternate)) (q .alternate) in
     (p .labels ∙ ap (map (becomes 3 5 8)) (v .0) ∙ sym (q .labels), omega (arith, p .both, q .both, u .1, v .1))
 
-pub fills-one : (mode : Mode) (r : Axes) (l : List ℕ) (m n : Counts) (a b : List ℕ) → Fills mode r l m a → Fills mode r l n b → (m ≡ n) × (a ≡ b)
+pub fills-one : (mode : Mode) (r : Axes) (l : List ℕ) (m n : FillCounts) (a b : List ℕ) → Fills mode r l m a → Fills mode r l n b → (m ≡ n) × (a ≡ b)
 fills-one mode r l m n a b p q =
     let u = scans-one mode r l a b (m .scans) (n .scans) (p .scanned) (q .scanned) in
     let v : m .left ≡ n .left = p .counted ∙ ap left (u .0) ∙ sym (q .counted) in
@@ -69,7 +69,7 @@ settled mode r l f g a b p q =
 
 -- ---- demand 2: after a fill without cavities, cell by cell
 
-module _ (r : Axes) (l m : List ℕ) (n : Counts) (f : Means Flood r l n m) (c : Cell) (h : InGrid r c) where
+module _ (r : Axes) (l m : List ℕ) (n : FillCounts) (f : Means Flood r l n m) (c : Cell) (h : InGrid r c) where
   -- 8 stays 8, and no other label becomes 8
   pub flood-surface : (at r m c ≡ 8) ↔ (at r l c ≡ 8)
   flood-surface = surface-means r l c (at r m c) (f .0 .each c h)

@@ -12,7 +12,7 @@ use borrow.Author.Tests.{eqb-true, eq-eqb, ne-eqb, le-leb, lt-leb}
 use Rattle.grid.specs.declared.Axes.{Axes}
 use Rattle.grid.specs.declared.Cell.{Cell}
 use Rattle.grid.specs.declared.LabelSet.{LabelSet}
-use Rattle.grid.specs.Checks.{takes, spans}
+use Rattle.grid.specs.Checks.{takes, labelRanges}
 use Rattle.grid.specs.Counts.{countOf}
 use Rattle.grid.specs.Flood.{Aired, Floods, surface, outside, inside, Flooded}
 use Rattle.grid.specs.Grid.{InGrid, num, cells, cellNumbered, at, Border, onBorder}
@@ -21,11 +21,11 @@ use Rattle.grid.proofs.Cells.{not-both, num-lt, number-of-cell, cell-in, labels
 use Rattle.grid.proofs.Checks.{taken-means}
 use Rattle.grid.proofs.First.{every-all}
 use Rattle.grid.proofs.Counts.{count-most, count-others, count-map, count-alike, count-none}
-use Rattle.spread.specs.Spread.{Plain, Reached, Spread}
-use Rattle.spread.proofs.Keeps.{Weighs}
-use Rattle.spread.proofs.Runs.{All, Same, Stays, run-keeps, run-stays, run-falls}
-use Rattle.spread.proofs.Spreads.{spreads}
-use Rattle.fill.specs.declared.Counts.{Counts}
+use Rattle.fill_walks.specs.Spread.{Plain, Reached, Spread}
+use Rattle.fill_walks.proofs.Keeps.{Weighs}
+use Rattle.fill_walks.proofs.Runs.{All, Same, Stays, run-keeps, run-stays, run-falls}
+use Rattle.fill_walks.proofs.Spreads.{spreads}
+use Rattle.fill.specs.declared.FillCounts.{FillCounts}
 use Rattle.fill.specs.declared.Mode.{Mode}
 use Rattle.fill.specs.declared.Mode.the-variants.{SurfaceOnly, Flood, Cavities}
 use Rattle.fill.specs.Phases.{seedOf, seeded, outward, phaseOf, Alternate, last, again, surfaceOnly, FloodRun, CavityRun}
@@ -221,7 +221,7 @@ module _ (r : Axes) (l : List ℕ) (size : length l ≡ cells r) (m : Marks l) w
 
   module _ (f : List ℕ) (n : ℕ) (run : CavityRun r l f n) where
     kept : map walls (run .ended) ≡ map walls s
-    kept = turns-keep (run .turns) ∙ run-keeps (outward 4) r walls outward-walls (run .phase)
+    kept = turns-keep (run .alternate) ∙ run-keeps (outward 4) r walls outward-walls (run .phase)
 
     kept-size : length (run .ended) ≡ cells r
     kept-size = sym (length-map (run .ended) walls) ∙ ap length kept ∙ length-map s walls ∙ seeded-size
@@ -240,7 +240,7 @@ module _ (r : Axes) (l : List ℕ) (size : length l ≡ cells r) (m : Marks l) w
 
   -- every label but 3
   abbrev working : LabelSet
-  working = spans 0 2 4 8
+  working = labelRanges 0 2 4 8
 
   outward-works : Stays (outward 4) (takes working)
   outward-works = record { passing = refl; setting = refl; marking = refl }
@@ -276,7 +276,7 @@ module _ (r : Axes) (l : List ℕ) (size : length l ≡ cells r) (m : Marks l) w
 
   cavity-labels : (f : List ℕ) (n : ℕ) → CavityRun r l f n → Among cavityLabels f
   cavity-labels f n run =
-      let worked = turns-work (run .turns) (run-stays (outward 4) r (takes working) outward-works (run .phase) seeds-work) in
+      let worked = turns-work (run .alternate) (run-stays (outward 4) r (takes working) outward-works (run .phase) seeds-work) in
       every-all (takes cavityLabels) 0 f (λ k h.
       let g : k < length (run .ended) = subst (λ (x : ℕ). k < x) (ap length (run .labels) ∙ length-map (run .ended) (becomes 3 5 8)) h in
       ap (λ (x : List ℕ). takes cavityLabels (getD x k 0)) (run .labels)
@@ -285,7 +285,7 @@ module _ (r : Axes) (l : List ℕ) (size : length l ≡ cells r) (m : Marks l) w
 
 -- ---- in every mode, what the procedure leaves means what it should
 
-pub fills-mean : (mode : Mode) (r : Axes) (l m : List ℕ) (n : Counts) → length l ≡ cells r → Marks l → Fills mode r l n m → Means mode r l n m
+pub fills-mean : (mode : Mode) (r : Axes) (l m : List ℕ) (n : FillCounts) → length l ≡ cells r → Marks l → Fills mode r l n m → Means mode r l n m
 fills-mean SurfaceOnly r l m n size k w =
     let e = w .scanned .0 in
     (subst (OthersOutside r l) (sym e) (others-outside r l size k), w .scanned .1, w .counted ∙ ap left e ∙ surface-only-left r l size k)

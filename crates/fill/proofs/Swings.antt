@@ -10,10 +10,10 @@ use Rattle.grid.specs.declared.Axes.{Axes}
 use Rattle.grid.specs.Counts.{count}
 use Rattle.grid.specs.Grid.{cells, Sheet}
 use Rattle.grid.proofs.Counts.{count-most}
-use Rattle.spread.specs.Run.{Run, Proper}
-use Rattle.spread.specs.Quiet.{Clear}
-use Rattle.spread.proofs.Keeps.{Weighs}
-use Rattle.spread.proofs.Runs.{run-one, run-some, run-falls}
+use Rattle.fill_walks.specs.Run.{Run, Proper}
+use Rattle.fill_walks.specs.Quiet.{Clear}
+use Rattle.fill_walks.proofs.Keeps.{Weighs}
+use Rattle.fill_walks.proofs.Runs.{run-one, run-some, run-falls}
 use Rattle.grid.proofs.Cells.{sheet-kept}
 use Rattle.fill.specs.Phases.{outward, phaseOf, Alternate, last, again}
 

@@ -3,18 +3,27 @@ ghost use mathlib.Core.Path.{_≡_};
 ghost use mathlib.Core.Bool.{true};
 ghost use Rattle.grid.specs.Answers.{Ends};
 ghost use Rattle.grid.specs.Grid.{Sheet};
-ghost use Rattle.spread.specs.Run.{Run};
+ghost use Rattle.fill_walks.specs.Run.{Run};
 ghost use Rattle.fill.specs.declared.Mode.the-variants.{SurfaceOnly, Flood, Cavities};
 ghost use Rattle.fill.specs.Phases.{outward, phaseOf, Alternate};
 ghost use Rattle.fill.specs.Modes.{outcome, marks, fillFault, Fills, Means};
 ghost use Rattle.fill.specs.Passes.{Marks};
+use fill_walks::Phase;
+use fill_walks::Walkers;
 use grid::Axes;
 use grid::Checked;
+use grid::INSIDE;
+use grid::INSIDE_TO_WALK;
+use grid::LabelRange;
 use grid::LabelSet;
+use grid::NO_WALK;
+use grid::OUTSIDE;
+use grid::OUTSIDE_TO_WALK;
 use grid::Refusal;
-use grid::Span;
-use spread::Phase;
-use spread::Walkers;
+use grid::SURFACE;
+use grid::SURFACE_WALK_1;
+use grid::SURFACE_WALK_2;
+use grid::UNDEFINED;
 
 pub enum Mode {
     SurfaceOnly,
@@ -23,14 +32,14 @@ pub enum Mode {
 }
 
 // How many scans of the whole grid there were, and how many cells are left.
-pub struct Counts {
+pub struct FillCounts {
     pub scans: usize,
     pub left: usize,
 }
 
 // What a fill answers; the fill itself is in the labels.
 pub enum Filling {
-    Filled(Counts),
+    Filled(FillCounts),
     Refused(Refusal),
 }
 
@@ -41,9 +50,9 @@ fn outward_with(mark: u8) -> Phase
     ensures { λ p. ⌜ p ≡ outward mark ⌝ }
 {
     Phase {
-        pass: 0,
-        todo: 1,
-        done: 6,
+        pass: UNDEFINED,
+        todo: OUTSIDE_TO_WALK,
+        done: OUTSIDE,
         walkers: Walkers::Nobody,
         mark,
     }
@@ -54,40 +63,40 @@ fn phase_of(inward: bool) -> Phase
 {
     if inward {
         return Phase {
-            pass: 0,
-            todo: 2,
-            done: 7,
-            walkers: Walkers::Those(4),
-            mark: 5,
+            pass: UNDEFINED,
+            todo: INSIDE_TO_WALK,
+            done: INSIDE,
+            walkers: Walkers::Those(SURFACE_WALK_1),
+            mark: SURFACE_WALK_2,
         };
     }
     Phase {
-        pass: 0,
-        todo: 1,
-        done: 6,
-        walkers: Walkers::Those(5),
-        mark: 4,
+        pass: UNDEFINED,
+        todo: OUTSIDE_TO_WALK,
+        done: OUTSIDE,
+        walkers: Walkers::Those(SURFACE_WALK_2),
+        mark: SURFACE_WALK_1,
     }
 }
 
 // One phase, inward or outward.
-fn turn(labels: &mut [u8], r: Axes, inward: bool) -> usize
+fn phase_in_turn(labels: &mut [u8], r: Axes, inward: bool) -> usize
     requires { ⌜ Sheet r (now labels) ⌝ }
     ensures { λ n. ⌜ Run (phaseOf inward) r (now (labels .entry)) (now (labels .exit)) n ⌝ }
 {
     let p = phase_of(inward);
-    scans::run(labels, p, r)
+    fill_scans::run_phase(labels, p, r)
 }
 
-// Phases inward and outward in turn, until one has walked none; answers the number of scans.
-fn turns(labels: &mut [u8], r: Axes) -> usize
+// Phases inward and outward in phase_in_turn, until one has walked none; answers the number of scans.
+fn phases_in_turn(labels: &mut [u8], r: Axes) -> usize
     requires { ⌜ Sheet r (now labels) ⌝ }
     ensures { λ n. ⌜ Alternate r true (now (labels .entry)) (now (labels .exit)) n ⌝ }
 {
     let mut scans = 0usize;
     let mut inward = true;
     loop {
-        let n = turn(labels, r, inward);
+        let n = phase_in_turn(labels, r, inward);
         scans += n;
         if n == 1 {
             return scans;
@@ -98,46 +107,46 @@ fn turns(labels: &mut [u8], r: Axes) -> usize
 
 // ---- modes
 
-fn keep_surface(labels: &mut [u8], r: Axes) -> Counts
+fn keep_surface(labels: &mut [u8], r: Axes) -> FillCounts
     requires { ⌜ Sheet r (now labels) × Marks (now labels) ⌝ }
     ensures { λ n. ⌜ Fills SurfaceOnly r (now (labels .entry)) n (now (labels .exit)) ⌝ }
 {
     let len = labels.len();
-    grid::replace(labels, 0, len, 0, 7, 6);
-    Counts { scans: 0, left: 0 }
+    grid::replace(labels, 0, len, UNDEFINED, INSIDE, OUTSIDE);
+    FillCounts { scans: 0, left: 0 }
 }
 
-fn fill_flood(labels: &mut [u8], r: Axes) -> Counts
+fn fill_flood(labels: &mut [u8], r: Axes) -> FillCounts
     requires { ⌜ Sheet r (now labels) × Marks (now labels) ⌝ }
     ensures { λ n. ⌜ Fills Flood r (now (labels .entry)) n (now (labels .exit)) ⌝ }
 {
     let len = labels.len();
-    seeds::seed(labels, r);
-    let p = outward_with(8);
-    let scans = scans::run(labels, p, r);
-    grid::replace(labels, 0, len, 0, 0, 7);
-    Counts { scans, left: 0 }
+    fill_seeds::seed(labels, r);
+    let p = outward_with(SURFACE);
+    let scans = fill_scans::run_phase(labels, p, r);
+    grid::replace(labels, 0, len, UNDEFINED, UNDEFINED, INSIDE);
+    FillCounts { scans, left: 0 }
 }
 
-fn fill_cavities(labels: &mut [u8], r: Axes) -> Counts
+fn fill_cavities(labels: &mut [u8], r: Axes) -> FillCounts
     requires { ⌜ Sheet r (now labels) × Marks (now labels) ⌝ }
     ensures { λ n. ⌜ Fills Cavities r (now (labels .entry)) n (now (labels .exit)) ⌝ }
 {
     let len = labels.len();
-    seeds::seed(labels, r);
-    let p = outward_with(4);
-    let first = scans::run(labels, p, r);
-    let later = turns(labels, r);
-    grid::replace(labels, 0, len, 4, 5, 8);
-    grid::replace(labels, 0, len, 3, 3, 8);
-    let left = grid::count_label(labels, 0);
-    Counts {
+    fill_seeds::seed(labels, r);
+    let p = outward_with(SURFACE_WALK_1);
+    let first = fill_scans::run_phase(labels, p, r);
+    let later = phases_in_turn(labels, r);
+    grid::replace(labels, 0, len, SURFACE_WALK_1, SURFACE_WALK_2, SURFACE);
+    grid::replace(labels, 0, len, NO_WALK, NO_WALK, SURFACE);
+    let left = grid::count_label(labels, UNDEFINED);
+    FillCounts {
         scans: first + later,
         left,
     }
 }
 
-fn fill_by(labels: &mut [u8], r: Axes, mode: Mode) -> Counts
+fn fill_by(labels: &mut [u8], r: Axes, mode: Mode) -> FillCounts
     requires { ⌜ Sheet r (now labels) × Marks (now labels) ⌝ }
     ensures { λ n. ⌜ Fills mode r (now (labels .entry)) n (now (labels .exit)) ⌝ }
 {
@@ -152,8 +161,14 @@ fn taken_marks() -> LabelSet
     ensures { λ s. ⌜ s ≡ marks ⌝ }
 {
     LabelSet {
-        one: Span { low: 0, high: 0 },
-        other: Span { low: 8, high: 8 },
+        one: LabelRange {
+            low: UNDEFINED,
+            high: UNDEFINED,
+        },
+        other: LabelRange {
+            low: SURFACE,
+            high: SURFACE,
+        },
     }
 }
 

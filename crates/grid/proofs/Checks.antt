@@ -13,11 +13,11 @@ use Rattle.grid.specs.declared.Checked.{Checked}
 use Rattle.grid.specs.declared.Checked.the-variants.{Fine, Fault}
 use Rattle.grid.specs.declared.LabelSet.{LabelSet}
 use Rattle.grid.specs.declared.Refusal.{Refusal}
-use Rattle.grid.specs.declared.Span.{Span}
+use Rattle.grid.specs.declared.LabelRange.{LabelRange}
 use Rattle.grid.specs.Answers.{Outcome, answers, refuses, faultAt, faultIf, _andThen_, unless, Ends, isOneOf, Finds, Gives}
 use Rattle.grid.specs.First.{FirstAt, firstNot}
 use Rattle.grid.specs.Grid.{Axis, Sound, cells, Sheet}
-use Rattle.grid.specs.Checks.{firstFault, badAxis, axesFault, bufferFault, gridFault, within, takes, labelsFault, mapFault}
+use Rattle.grid.specs.Checks.{firstFault, badAxis, axesFault, bufferFault, gridFault, inRange, takes, labelsFault, mapFault}
 use Rattle.grid.proofs.First.{both-true, or-true, before-first, at-first, first-is, first-one}
 
 -- ---- a row of checks
@@ -173,9 +173,9 @@ module _ {A : Type 0} (n : ℕ) (place : ℕ → ℕ) (ok : A → Bool) (d : A) 
 
 -- what the test says
 pub taken-means : (s : LabelSet) (v : ℕ) → takes s v ≡ true → ((s .one .low ≤ v) × (v ≤ s .one .high)) ⊎ ((s .other .low ≤ v) × (v ≤ s .other .high))
-taken-means s v h = ⊎-elim (λ e. inl (of (s .one) e)) (λ e. inr (of (s .other) e)) (or-true (within (s .one) v) (within (s .other) v) h)
+taken-means s v h = ⊎-elim (λ e. inl (of (s .one) e)) (λ e. inr (of (s .other) e)) (or-true (inRange (s .one) v) (inRange (s .other) v) h)
   where
-    of : (a : Span) → within a v ≡ true → (a .low ≤ v) × (v ≤ a .high)
+    of : (a : LabelRange) → inRange a v ≡ true → (a .low ≤ v) × (v ≤ a .high)
     of a e = let q = both-true (leb (a .low) v) (leb v (a .high)) e in (leb-true (a .low) v (q .0), leb-true v (a .high) (q .1))
 
 -- ---- a call that goes by a relation

@@ -1,3 +1,5 @@
+pub mod Labels
+pub mod Refusals
 pub mod Answers
 pub mod First
 pub mod Grid

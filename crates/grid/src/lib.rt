@@ -11,6 +11,70 @@ ghost use Rattle.grid.specs.Counts.{countOf};
 ghost use Rattle.grid.specs.Passes.{becomes, Within};
 ghost use Rattle.grid.specs.Checks.{badAxis, axesFault, gridFault, takes, labelsFault, mapFault};
 
+// ---- the labels of a cell
+
+// By their order in the crate's enum. A map has OUTSIDE, INSIDE and SURFACE, marks have UNDEFINED and SURFACE;
+// the others are a fill's, while it works.
+pub const UNDEFINED: u8 = 0;
+
+pub const OUTSIDE_TO_WALK: u8 = 1;
+
+pub const INSIDE_TO_WALK: u8 = 2;
+
+pub const NO_WALK: u8 = 3;
+
+pub const SURFACE_WALK_1: u8 = 4;
+
+pub const SURFACE_WALK_2: u8 = 5;
+
+pub const OUTSIDE: u8 = 6;
+
+pub const INSIDE: u8 = 7;
+
+pub const SURFACE: u8 = 8;
+
+// ---- the numbers of refusals
+
+// A list's length is no multiple of 3, or it has too many points or triangles.
+pub const BAD_COUNT: u8 = 1;
+
+pub const NO_POINTS: u8 = 2;
+// A number is NaN, infinite or too large.
+pub const BAD_NUMBER: u8 = 3;
+// A triangle names a missing point, or an entry a missing triangle.
+pub const MISSING_NAME: u8 = 4;
+// A cell size, a scale or its reciprocal.
+pub const BAD_SIZE: u8 = 5;
+
+pub const BAD_RESOLUTION: u8 = 6;
+// By resolution: the points lie too near each other.
+pub const NO_EXTENT: u8 = 7;
+// No cells along an axis, or too many.
+pub const BAD_AXIS: u8 = 8;
+// A label buffer's length is not the number of cells.
+pub const BAD_BUFFER: u8 = 9;
+// A triangle's vertex falls on no cell.
+pub const OFF_GRID: u8 = 10;
+// A label that the call does not take.
+pub const BAD_LABEL: u8 = 11;
+// A cell, an axis, a plane's index or a step.
+pub const OUT_OF_RANGE: u8 = 12;
+// Opening a cell that is no surface, or closing one that is.
+pub const WRONG_KIND: u8 = 13;
+// An output is too short, or there are too many pairs.
+pub const NO_ROOM: u8 = 14;
+// The ends of parts, or a range of a list.
+pub const BAD_RANGE: u8 = 15;
+// Of the program's input: a wrong mark or order, an unknown way or mode, bytes after the end.
+pub const BAD_RECORD: u8 = 16;
+// Of the program's input: it stops too soon.
+pub const CUT_INPUT: u8 = 17;
+
+// ---- grids
+
+// The most cells along an axis.
+pub const AXIS_MOST: usize = 256;
+
 // How many cells the grid has along i, j and k.
 pub struct Axes {
     pub r0: usize,
@@ -24,6 +88,19 @@ pub struct Cell {
     pub k: usize,
 }
 
+// The places along an axis from one up to, not including, another.
+pub struct Stretch {
+    pub from: usize,
+    pub to: usize,
+}
+
+// The cells that have their places in three stretches.
+pub struct Block {
+    pub i: Stretch,
+    pub j: Stretch,
+    pub k: Stretch,
+}
+
 // Where a grid stands: its origin, its cells' side, and 1 / side rounded once. They travel together.
 pub struct Placement {
     pub x: f32,
@@ -31,6 +108,12 @@ pub struct Placement {
     pub z: f32,
     pub scale: f32,
     pub reciprocal: f32,
+}
+
+// A grid that is laid over points.
+pub struct Laid {
+    pub axes: Axes,
+    pub placement: Placement,
 }
 
 // A refusal's number in the table of refusals, and its place.
@@ -46,15 +129,15 @@ pub enum Checked {
 }
 
 // The labels from low to high, both included.
-pub struct Span {
+pub struct LabelRange {
     pub low: u8,
     pub high: u8,
 }
 
 // Which labels a call takes: those of one span and of the other.
 pub struct LabelSet {
-    pub one: Span,
-    pub other: Span,
+    pub one: LabelRange,
+    pub other: LabelRange,
 }
 
 // The number of a cell.
@@ -78,7 +161,7 @@ pub fn on_border(r: Axes, c: Cell) -> bool
 fn bad_axis(n: usize) -> bool
     ensures { λ b. ⌜ b ≡ badAxis n ⌝ }
 {
-    (n == 0) | (256 < n)
+    (n == 0) | (AXIS_MOST < n)
 }
 
 pub fn fault(number: u8, place: usize) -> Checked
@@ -102,13 +185,13 @@ pub fn axes_fault(r: Axes) -> Checked
     ensures { λ f. ⌜ f ≡ axesFault r ⌝ }
 {
     if bad_axis(r.r0) {
-        return fault(8, 0);
+        return fault(BAD_AXIS, 0);
     }
     if bad_axis(r.r1) {
-        return fault(8, 1);
+        return fault(BAD_AXIS, 1);
     }
     if bad_axis(r.r2) {
-        return fault(8, 2);
+        return fault(BAD_AXIS, 2);
     }
     Checked::Fine
 }
@@ -123,7 +206,7 @@ pub fn grid_fault(r: Axes, len: usize) -> Checked
             if len == r.r0 * r.r1 * r.r2 {
                 return Checked::Fine;
             }
-            fault(9, 0)
+            fault(BAD_BUFFER, 0)
         }
     }
 }
@@ -172,7 +255,7 @@ pub fn labels_fault(labels: &[u8], set: LabelSet) -> Checked
     if all_taken(labels, set) {
         return Checked::Fine;
     }
-    fault(11, first_not_taken(labels, set))
+    fault(BAD_LABEL, first_not_taken(labels, set))
 }
 
 // Refusals 8, 9 and 11 of a map.
@@ -203,7 +286,7 @@ pub fn count_label(labels: &[u8], label: u8) -> usize
     n
 }
 
-fn turned(low: u8, high: u8, new: u8, label: u8) -> u8
+fn replaced_by(low: u8, high: u8, new: u8, label: u8) -> u8
     ensures { λ v. ⌜ v ≡ becomes low high new label ⌝ }
 {
     if (low <= label) & (label <= high) {
@@ -220,7 +303,7 @@ pub fn replace(labels: &mut [u8], from: usize, to: usize, low: u8, high: u8, new
 {
     let mut n = from;
     while n < to {
-        let v = turned(low, high, new, labels[n]);
+        let v = replaced_by(low, high, new, labels[n]);
         labels[n] = v;
         n += 1;
     }

@@ -2,4 +2,4 @@ pub mod Bound
 pub mod Ring
 pub mod Order
 pub mod Casts
-pub mod Parts
+pub mod Differences

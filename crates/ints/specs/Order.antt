@@ -9,7 +9,7 @@ use lib.Dec.{T, ltb, leb, ltb→lt, lt→ltb, leb→le, le→leb}
 use lib.IntN.{ℤ, pos, negsuc, negℤ, subℕ, _+ℤ_, _-ℤ_}
 use lib.Signed.{ltZ, leZ}
 use borrow.Author.Tests.{ltb-true, ltb-false, le-leb, lt-leb}
-use Rattle.ints.specs.Parts.{up, down, parts, add-sub, neg-sub, lt-sub}
+use Rattle.ints.specs.Differences.{up, down, up-down, add-sub, neg-sub, lt-sub}
 
 pub leZ-refl : (a : ℤ) → T (leZ a a)
 leZ-refl (pos n) = le→leb n n (le-refl n)
@@ -57,13 +57,13 @@ pub ap2 : {A B C : Type 0} (f : A → B → C) {a a' : A} {b b' : B} → a ≡ a
 ap2 f p q = λ t. f (p t) (q t)
 
 sum-sub : (a b : ℤ) → a +ℤ b ≡ subℕ (up a + up b) (down a + down b)
-sum-sub a b = ap2 _+ℤ_ (parts a) (parts b) ∙ add-sub (up a) (down a) (up b) (down b)
+sum-sub a b = ap2 _+ℤ_ (up-down a) (up-down b) ∙ add-sub (up a) (down a) (up b) (down b)
 
 less-sub : (a b : ℤ) → a -ℤ b ≡ subℕ (up a + down b) (down a + up b)
-less-sub a b = ap2 _-ℤ_ (parts a) (parts b) ∙ ap (λ (z : ℤ). subℕ (up a) (down a) +ℤ z) (neg-sub (up b) (down b)) ∙ add-sub (up a) (down a) (down b) (up b)
+less-sub a b = ap2 _-ℤ_ (up-down a) (up-down b) ∙ ap (λ (z : ℤ). subℕ (up a) (down a) +ℤ z) (neg-sub (up b) (down b)) ∙ add-sub (up a) (down a) (down b) (up b)
 
 below-test : (a b : ℤ) → ltZ a b ≡ ltb (up a + down b) (up b + down a)
-below-test a b = ap (λ (z : ℤ). ltZ z b) (parts a) ∙ ap (λ (z : ℤ). ltZ (subℕ (up a) (down a)) z) (parts b) ∙ lt-sub (up a) (down a) (up b) (down b)
+below-test a b = ap (λ (z : ℤ). ltZ z b) (up-down a) ∙ ap (λ (z : ℤ). ltZ (subℕ (up a) (down a)) z) (up-down b) ∙ lt-sub (up a) (down a) (up b) (down b)
 
 -- as a sum of numbers without a sign, for `omega`
 pub lt-sums : (a b : ℤ) → T (ltZ a b) ↔ (up a + down b < up b + down a)
@@ -134,10 +134,10 @@ lt-greater z a b =
 
 pub lt-less : (s r a : ℤ) → ltZ (s +ℤ r) a ≡ ltZ s (a -ℤ r)
 lt-less s r a =
-    ap2 ltZ (sum-sub s r) (parts a)
+    ap2 ltZ (sum-sub s r) (up-down a)
     ∙ lt-sub (up s + up r) (down s + down r) (up a) (down a)
     ∙ ap2 ltb (turn (up s) (up r) (down a)) (turn-back (up a) (down s) (down r))
-    ∙ sym (ap2 ltZ (parts s) (less-sub a r) ∙ lt-sub (up s) (down s) (up a + down r) (down a + up r))
+    ∙ sym (ap2 ltZ (up-down s) (less-sub a r) ∙ lt-sub (up s) (down s) (up a + down r) (down a + up r))
   where
     turn : (x y z : ℕ) → x + y + z ≡ x + (z + y)
     turn x y z = omega arith

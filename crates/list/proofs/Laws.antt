@@ -10,7 +10,7 @@ use Rattle.grid.specs.Checks.{gridFault, mapFault, takes}
 use Rattle.grid.proofs.Checks.{finds-if, finds-then, finds-first, finds-grid, gives-unless}
 use Rattle.order.specs.Order.{knownLabels}
 use Rattle.order.proofs.Outputs.{refused-same}
-use Rattle.listed.specs.Listed.{width}
+use Rattle.list_record.specs.Record.{width}
 use Rattle.list.specs.List.{listed, cellsFault, cellsAnswer}
 use mathlib.Core.Path.{_≡_, sym, ap, _∙_}
 use native.Mathlib.Omega.{arith}

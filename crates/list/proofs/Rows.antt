@@ -17,14 +17,14 @@ use Rattle.order.specs.Output.{Written}
 use Rattle.order.proofs.Orders.{keep-yes, keep-no, keep-append}
 use Rattle.order.proofs.Outputs.{append-left, written-none, written-then}
 use Rattle.order.proofs.Sums.{kept-count}
-use Rattle.listed.specs.declared.Listed.{Listed}
-use Rattle.listed.specs.Listed.{width, numbersOf, recordAt}
-use Rattle.listed.proofs.Records.{numbers-length, numbers-read, record-behind}
+use Rattle.list_record.specs.declared.CellRecord.{CellRecord}
+use Rattle.list_record.specs.Record.{width, numbersOf, recordAt}
+use Rattle.list_record.proofs.Records.{numbers-length, numbers-read, record-behind}
 use Rattle.list.specs.List.{isListed, flagOf, listed, recordsFrom, listedIn, plainIn, RoomFrom}
 
 module _ (r : Axes) (l : List ℕ) (f : Cell → List ℕ) where
   -- the record of a cell at a running place
-  abbrev pub rowAt : ℕ → Cell → Listed
+  abbrev pub rowAt : ℕ → Cell → CellRecord
   rowAt s c = record { cell = c; surface = flagOf (at r l c); start = s; end = s + length (f c) }
 
   pub rows-length : (s : ℕ) (cs : List Cell) → length (recordsFrom r l f s cs) ≡ length cs * width

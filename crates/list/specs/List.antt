@@ -10,28 +10,29 @@ use Rattle.grid.specs.declared.Checked.{Checked}
 use Rattle.grid.specs.Answers.{Outcome, answers, refuses, _andThen_, unless, lentAfter}
 use Rattle.grid.specs.Grid.{at}
 use Rattle.grid.specs.Checks.{mapFault}
+use Rattle.grid.specs.Labels.{INSIDE, SURFACE}
 use Rattle.order.specs.Order.{inOrder, keep, knownLabels}
 use Rattle.order.specs.Output.{roomFault, over}
-use Rattle.listed.specs.Listed.{width, numbersOf}
-use Rattle.list.specs.declared.Counts.{Counts}
+use Rattle.list_record.specs.Record.{width, numbersOf}
+use Rattle.list.specs.declared.ListCounts.{ListCounts}
 use Rattle.list.specs.declared.Listing.{Listing}
 use Rattle.list.specs.declared.Listing.the-variants.{Listed, Refused}
 
 -- 01's number and values for each case of `Listing`: how many cells and pairs are listed
-abbrev pub outcome : Listing → Outcome Counts
+abbrev pub outcome : Listing → Outcome ListCounts
 outcome (Listed n) = answers n
 outcome (Refused f) = refuses (f .number) (f .place)
 
 -- "List: cells 7 and 8, i outermost, k innermost; other labels are omitted"
 abbrev pub isListed : ℕ → Bool
-isListed v = eqb v 7 || eqb v 8
+isListed v = eqb v INSIDE || eqb v SURFACE
 
 abbrev pub listed : Axes → List ℕ → List Cell
 listed r l = keep (λ c. isListed (at r l c)) (inOrder r)
 
 -- the surface flag: 1 for a cell 8
 abbrev pub flagOf : ℕ → ℕ
-flagOf v = cond (eqb v 8) 1 0
+flagOf v = cond (eqb v SURFACE) 1 0
 
 -- The records of a list of cells, where each cell has some triangles. A range starts at the running place s and has room for the cell's triangles; the next starts where it ends: "ranges follow without gaps". A cell without triangles has "the empty range at the running place"
 unfoldable pub recordsFrom : Axes → List ℕ → (Cell → List ℕ) → ℕ → List Cell → List ℕ
@@ -65,7 +66,7 @@ pub record RoomFrom (p : ℕ) (cs : List Cell) (o : List ℕ) : Type 0 where
 abbrev pub cellsFault : List ℕ → Axes → ℕ → Checked
 cellsFault l r len = mapFault knownLabels r l andThen roomFault len (length (listed r l) * width)
 
-abbrev pub cellsAnswer : List ℕ → Axes → List ℕ → Outcome Counts
+abbrev pub cellsAnswer : List ℕ → Axes → List ℕ → Outcome ListCounts
 cellsAnswer l r o = unless (cellsFault l r (length o)) (answers (record { cells = length (listed r l); pairs = 0 }))
 
 abbrev pub cellsBuffer : List ℕ → Axes → List ℕ → List ℕ

@@ -6,30 +6,32 @@ ghost use lib.ListN.{length};
 ghost use Rattle.grid.specs.Grid.{Sheet};
 ghost use Rattle.order.specs.Order.{row, rows};
 ghost use Rattle.order.specs.Output.{Written};
-ghost use Rattle.listed.specs.Listed.{width};
+ghost use Rattle.list_record.specs.Record.{width};
 ghost use Rattle.list.specs.List.{isListed, flagOf, listed, listedIn, plainIn, RoomFrom, plainRecords, outcome, cellsAnswer, cellsBuffer};
 use grid::Axes;
 use grid::Cell;
 use grid::Checked;
+use grid::INSIDE;
 use grid::Refusal;
-use listed::Listed;
+use grid::SURFACE;
+use list_record::CellRecord;
 
 // How many cells are listed, and how many pairs of a cell and a triangle.
-pub struct Counts {
+pub struct ListCounts {
     pub cells: usize,
     pub pairs: usize,
 }
 
 // What a list answers; the list is in the outputs.
 pub enum Listing {
-    Listed(Counts),
+    Listed(ListCounts),
     Refused(Refusal),
 }
 
 fn is_listed(label: u8) -> bool
     ensures { λ b. ⌜ b ≡ isListed label ⌝ }
 {
-    (label == 7) | (label == 8)
+    (label == INSIDE) | (label == SURFACE)
 }
 
 fn one_if_listed(label: u8) -> u32
@@ -55,7 +57,7 @@ pub fn count_cells(labels: &[u8], r: Axes) -> usize
 fn flag_of(label: u8) -> u32
     ensures { λ f. ⌜ f ≡ flagOf label ⌝ }
 {
-    if label == 8 { 1 } else { 0 }
+    if label == SURFACE { 1 } else { 0 }
 }
 
 // The records of row (i, j), from record p on. Answers where the next one goes.
@@ -73,10 +75,10 @@ fn write_row(labels: &[u8], r: Axes, records: &mut [u32], p: usize, i: usize, j:
         k += 1;
         let label = labels[grid::number(r, c)];
         if is_listed(label) {
-            listed::write(
+            list_record::write(
                 records,
                 q,
-                Listed {
+                CellRecord {
                     cell: c,
                     surface: flag_of(label),
                     start: 0,
@@ -130,11 +132,11 @@ pub fn list_cells(labels: &[u8], r: Axes, records: &mut [u32]) -> Listing
         Checked::Fault(f) => Listing::Refused(f),
         Checked::Fine => {
             let cells = count_cells(labels, r);
-            match order::room_fault(records.len(), (cells * listed::WIDTH) as u64) {
+            match order::room_fault(records.len(), (cells * list_record::WIDTH) as u64) {
                 Checked::Fault(f) => Listing::Refused(f),
                 Checked::Fine => {
                     write_records(labels, r, records);
-                    Listing::Listed(Counts { cells, pairs: 0 })
+                    Listing::Listed(ListCounts { cells, pairs: 0 })
                 }
             }
         }

@@ -26,12 +26,12 @@ use Rattle.sizing.specs.Points.{bounded, lengthFault}
 use Rattle.sizing.specs.Sizing.{points}
 use Rattle.touch.specs.Touch.{vertex, touching}
 use Rattle.touch.proofs.Meaning.{own-cell}
-use Rattle.mesh.specs.Mesh.{vertexOf, onGrid, triangles, corner, triangleOf, isCandidate}
-use Rattle.mesh.specs.Faults.{originFault, names, missingFault, leastScale, greatestScale, lentFault, lengthsFault, lentNumbersFault, inputFault, meshFault}
-use Rattle.mesh.proofs.Laws.{mesh-fine, on-cells, on-vertex, IsCellOf, own-in, own-is-candidate}
+use Rattle.marking_mesh.specs.Mesh.{vertexOf, onGrid, triangles, corner, triangleOf, isCandidate}
+use Rattle.marking_mesh.specs.Faults.{originFault, names, missingFault, leastScale, greatestScale, lentFault, lengthsFault, lentNumbersFault, inputFault, meshFault}
+use Rattle.marking_mesh.proofs.Laws.{mesh-fine, on-cells, on-vertex, IsCellOf, own-in, own-is-candidate}
 use Rattle.marking.specs.declared.Marking.{Marking}
 use Rattle.marking.specs.declared.Marking.the-variants.{Marked, Refused}
-use Rattle.marking.specs.Marked.{outcome, hits, isSurface, markOf, markedLabels, markAnswer, markLabels}
+use Rattle.marking.specs.Marked.{outcome, hits, isSurface, markLabel, markedLabels, markAnswer, markLabels}
 use Rattle.marking.specs.Painted.{Painted, Ready}
 
 -- ---- what the loops need and leave
@@ -43,9 +43,9 @@ few n h =
     let l = ltb-false 65536 (n / 3) (p .1) in
     omega (arith, div-add-mod n 3)
 
-pub ready : (ps : List Float) (ts : List ℕ) (r : Axes) (at : Placement) (len : ℕ) → meshFault ps ts r at len ≡ Fine → Ready ps ts r at × Sound r × (len ≡ cells r)
-ready ps ts r at len h =
-    let w = mesh-fine ps ts r at len h in
+pub ready : (ps : List Float) (ts : List ℕ) (r : Axes) (placement : Placement) (len : ℕ) → meshFault ps ts r placement len ≡ Fine → Ready ps ts r placement × Sound r × (len ≡ cells r)
+ready ps ts r placement len h =
+    let w = mesh-fine ps ts r placement len h in
     let i = w .0 in
     (record { named = i .named; on = w .1; few = few (length ts) (i .few) }, i .sound, i .size)
 
@@ -53,36 +53,36 @@ ready ps ts r at len h =
 pub painted-marked : (ps : List Float) (ts : List ℕ) (r : Axes) (p : Placement) (n : ℕ) (m : List ℕ) → n ≡ cells r
     → Painted r (isSurface ps ts r p) (replicate n 0) m → m ≡ markedLabels ps ts r p
 painted-marked ps ts r p n m e w =
-    labels-one r (λ c. markOf (isSurface ps ts r p c)) m (w .size ∙ length-replicate n 0 ∙ e)
+    labels-one r (λ c. markLabel (isSurface ps ts r p c)) m (w .size ∙ length-replicate n 0 ∙ e)
     (λ c i. w .labels c i ∙ ap (λ (v : ℕ). cond (isSurface ps ts r p c) 8 v) (getD-replicate n (num r c) 0 0 (subst (λ (k : ℕ). num r c < k) (sym e) (num-lt r c i))))
 
 -- ---- which numbers mark gives: 1, 2, 3, 4, 5, 8, 9 and 10
 
 -- what the checks of a mesh find, in any list that has these numbers
-pub mesh-finds : (ns : List ℕ) (ps : List Float) (ts : List ℕ) (r : Axes) (at : Placement) (len : ℕ)
+pub mesh-finds : (ns : List ℕ) (ps : List Float) (ts : List ℕ) (r : Axes) (placement : Placement) (len : ℕ)
     → T (isOneOf 1 ns) → T (isOneOf 2 ns) → T (isOneOf 3 ns) → T (isOneOf 4 ns) → T (isOneOf 5 ns) → T (isOneOf 8 ns) → T (isOneOf 9 ns) → T (isOneOf 10 ns)
-    → Finds ns (meshFault ps ts r at len)
-mesh-finds ns ps ts r at len h1 h2 h3 h4 h5 h8 h9 h10 =
-    finds-then ns (inputFault ps ts r at len) _ input (finds-first ns 10 (λ k. k / 3) (λ v. onGrid r (vertexOf ps at v)) ts h10)
+    → Finds ns (meshFault ps ts r placement len)
+mesh-finds ns ps ts r placement len h1 h2 h3 h4 h5 h8 h9 h10 =
+    finds-then ns (inputFault ps ts r placement len) _ input (finds-first ns 10 (λ k. k / 3) (λ v. onGrid r (vertexOf ps placement v)) ts h10)
   where
     lengths : (n : ℕ) → Finds ns (lengthFault n)
     lengths n = finds-if ns (not (eqb (n % 3) 0) || ltb 65536 (n / 3)) 1 0 Fine h1 tt
 
-    input : Finds ns (inputFault ps ts r at len)
+    input : Finds ns (inputFault ps ts r placement len)
     input =
         finds-then ns (lengthsFault ps ts) _
         (finds-then ns (lengthFault (length ps)) _ (lengths (length ps)) (finds-then ns (lengthFault (length ts)) _ (lengths (length ts)) (finds-if ns (eqb (length ps) 0) 2 0 Fine h2 tt)))
-        (finds-then ns (lentNumbersFault ps at) _
-        (finds-then ns (originFault at) _ (finds-first ns 3 (λ n. 0 + n) (bounded 20) (at .x ∷ at .y ∷ at .z ∷ []) h3) (finds-first ns 3 (λ n. 3 + n) (bounded 20) ps h3))
+        (finds-then ns (lentNumbersFault ps placement) _
+        (finds-then ns (originFault placement) _ (finds-first ns 3 (λ n. 0 + n) (bounded 20) (placement .x ∷ placement .y ∷ placement .z ∷ []) h3) (finds-first ns 3 (λ n. 3 + n) (bounded 20) ps h3))
         (finds-then ns (missingFault (points ps) ts) _ (finds-first ns 4 (λ k. k / 3) (names (points ps)) ts h4)
-        (finds-then ns (lentFault at) _
-        (finds-if ns (not (le leastScale (at .scale) && le (at .scale) greatestScale && eq (at .reciprocal) (div binary32 (fin false 1 (pos 0)) (at .scale)))) 5 0 Fine h5 tt)
+        (finds-then ns (lentFault placement) _
+        (finds-if ns (not (le leastScale (placement .scale) && le (placement .scale) greatestScale && eq (placement .reciprocal) (div binary32 (fin false 1 (pos 0)) (placement .scale)))) 5 0 Fine h5 tt)
         (finds-grid ns r len h8 h9))))
 
-pub mark-numbers : (ps : List Float) (ts : List ℕ) (r : Axes) (at : Placement) (l : List ℕ) → Gives (1 ∷ 2 ∷ 3 ∷ 4 ∷ 5 ∷ 8 ∷ 9 ∷ 10 ∷ []) (markAnswer ps ts r at l)
-mark-numbers ps ts r at l =
-    gives-unless (1 ∷ 2 ∷ 3 ∷ 4 ∷ 5 ∷ 8 ∷ 9 ∷ 10 ∷ []) (meshFault ps ts r at (length l)) (answers tt)
-    (mesh-finds (1 ∷ 2 ∷ 3 ∷ 4 ∷ 5 ∷ 8 ∷ 9 ∷ 10 ∷ []) ps ts r at (length l) tt tt tt tt tt tt tt tt) (λ f. tt)
+pub mark-numbers : (ps : List Float) (ts : List ℕ) (r : Axes) (placement : Placement) (l : List ℕ) → Gives (1 ∷ 2 ∷ 3 ∷ 4 ∷ 5 ∷ 8 ∷ 9 ∷ 10 ∷ []) (markAnswer ps ts r placement l)
+mark-numbers ps ts r placement l =
+    gives-unless (1 ∷ 2 ∷ 3 ∷ 4 ∷ 5 ∷ 8 ∷ 9 ∷ 10 ∷ []) (meshFault ps ts r placement (length l)) (answers tt)
+    (mesh-finds (1 ∷ 2 ∷ 3 ∷ 4 ∷ 5 ∷ 8 ∷ 9 ∷ 10 ∷ []) ps ts r placement (length l) tt tt tt tt tt tt tt tt) (λ f. tt)
 
 -- ---- two results that fit the promise are one
 
@@ -115,10 +115,10 @@ refused-same ps ts r p l n k h = go (meshFault ps ts r p (length l)) h
 
 -- a cell is 8 exactly if some triangle has it as a candidate and touches it, and 0 otherwise
 module _ (ps : List Float) (ts : List ℕ) (r : Axes) (p : Placement) (c : Cell) (i : InGrid r c) where
-  label-is : at r (markedLabels ps ts r p) c ≡ markOf (isSurface ps ts r p c)
-  label-is = labels-at r (λ c. markOf (isSurface ps ts r p c)) c i
+  label-is : at r (markedLabels ps ts r p) c ≡ markLabel (isSurface ps ts r p c)
+  label-is = labels-at r (λ c. markLabel (isSurface ps ts r p c)) c i
 
-  eight : (b : Bool) → markOf b ≡ 8 → b ≡ true
+  eight : (b : Bool) → markLabel b ≡ 8 → b ≡ true
   eight true h = refl
   eight false h = absurd (let z : _≡_ {A = ℕ} 0 8 = h in omega arith)
 
@@ -132,13 +132,13 @@ module _ (ps : List Float) (ts : List ℕ) (r : Axes) (p : Placement) (c : Cell)
     (λ w.
         let t = triangleOf ps ts p (w .0) in
         let both : (isCandidate t r c && touching t c) ≡ true = rw (w .2, w .3) in
-        label-is ∙ ap markOf (some-below (λ t. hits ps ts r p t c) (triangles ts) .1 (w .0, w .1, both))),
+        label-is ∙ ap markLabel (some-below (λ t. hits ps ts r p t c) (triangles ts) .1 (w .0, w .1, both))),
   )
 
   pub mark-other : (at r (markedLabels ps ts r p) c ≡ 8 → ⊥) → at r (markedLabels ps ts r p) c ≡ 0
   mark-other h = label-is ∙ go (isSurface ps ts r p c) (λ e. h (label-is ∙ e))
     where
-      go : (b : Bool) → (markOf b ≡ 8 → ⊥) → markOf b ≡ 0
+      go : (b : Bool) → (markLabel b ≡ 8 → ⊥) → markLabel b ≡ 0
       go true z = absurd (z refl)
       go false z = refl
 
@@ -172,8 +172,8 @@ module _ (ps : List Float) (r : Axes) (p : Placement) where
 
   pub any-order : (ts us : List ℕ) → Among ts us → Among us ts → markedLabels ps ts r p ≡ markedLabels ps us r p
   any-order ts us a b =
-      labels-one r (λ c. markOf (isSurface ps us r p c)) (markedLabels ps ts r p) (labels-length r (λ c. markOf (isSurface ps ts r p c)))
-      (λ c i. labels-at r (λ c. markOf (isSurface ps ts r p c)) c i ∙ ap markOf (same (isSurface ps ts r p c) (isSurface ps us r p c) (surface-among ts us a c) (surface-among us ts b c)))
+      labels-one r (λ c. markLabel (isSurface ps us r p c)) (markedLabels ps ts r p) (labels-length r (λ c. markLabel (isSurface ps ts r p c)))
+      (λ c i. labels-at r (λ c. markLabel (isSurface ps ts r p c)) c i ∙ ap markLabel (same (isSurface ps ts r p c) (isSurface ps us r p c) (surface-among ts us a c) (surface-among us ts b c)))
     where
       same : (x y : Bool) → (x ≡ true → y ≡ true) → (y ≡ true → x ≡ true) → x ≡ y
       same true y f g = sym (f refl)

@@ -14,17 +14,17 @@ use Rattle.grid.specs.declared.Cell.{Cell}
 use Rattle.grid.specs.Grid.{InGrid, num, at, Sheet}
 use Rattle.grid.proofs.First.{le-or-lt, both-true}
 use Rattle.grid.proofs.Cells.{cell-path, sheet-kept, stored}
-use Rattle.touch.specs.declared.Slabs.{Slabs}
+use Rattle.touch.specs.declared.Bands.{Bands}
 use Rattle.touch.specs.Touch.{touching}
-use Rattle.touch.specs.Slabs.{keptAll, slabsOf, SlabsFit}
-use Rattle.touch.proofs.Laws.{slabs-touch}
-use Rattle.mesh.specs.declared.Ends.{Ends}
-use Rattle.mesh.specs.declared.Block.{Block}
-use Rattle.mesh.specs.Mesh.{isCandidate}
-use Rattle.mesh.specs.Ranges.{BlockOf, between, holds}
-use Rattle.mesh.proofs.Laws.{block-test}
-use Rattle.intervals.specs.Intervals.{Cut, Clipped, axesLeave, acrossX, acrossY, restOfRow}
-use Rattle.intervals.proofs.Laws.{layer-all, kept-axes, kept-x, kept-y}
+use Rattle.touch.specs.Bands.{keptAll, bandsOf, BandsFit}
+use Rattle.touch.proofs.Laws.{bands-touch}
+use Rattle.grid.specs.declared.Stretch.{Stretch}
+use Rattle.grid.specs.declared.Block.{Block}
+use Rattle.marking_mesh.specs.Mesh.{isCandidate}
+use Rattle.marking_mesh.specs.Ranges.{BlockOf, between, holds}
+use Rattle.marking_mesh.proofs.Laws.{block-test}
+use Rattle.marking_cuts.specs.Intervals.{Cut, Clipped, axesLeave, acrossX, acrossY, restOfRow}
+use Rattle.marking_cuts.proofs.Laws.{layer-all, kept-axes, kept-x, kept-y}
 use Rattle.marking.specs.Painted.{Painted, leftIn, one, rowOf, layerOf, AxesLeave, RowRest}
 
 -- ---- painting
@@ -55,29 +55,29 @@ module _ (r : Axes) where
 
 -- ---- along an axis: the places from e's first up to, not including, i
 
-abbrev pub upto : Ends → ℕ → Ends
+abbrev pub upto : Stretch → ℕ → Stretch
 upto e i = record { from = e .from; to = i }
 
 -- a walk along e that stands at i
-pub record Walk (e : Ends) (i : ℕ) : Type 0 where
+pub record Walk (e : Stretch) (i : ℕ) : Type 0 where
   pub low : e .from ≤ i
   pub high : (i ≤ e .to) ⊎ (i ≡ e .from)
 
-pub walk-starts : (e : Ends) → Walk e (e .from)
+pub walk-starts : (e : Stretch) → Walk e (e .from)
 walk-starts e = record { low = omega arith; high = inr refl }
 
-pub walk-on : (e : Ends) (i : ℕ) → Walk e i → i < e .to → Walk e (i + 1)
+pub walk-on : (e : Stretch) (i : ℕ) → Walk e i → i < e .to → Walk e (i + 1)
 walk-on e i w h = record { low = omega (arith, w .low); high = inl (omega arith) }
 
 empty : (a x : ℕ) → (leb a x && ltb x a) ≡ false
 empty a x = ⊎-elim (λ h. ap (λ (b : Bool). b && ltb x a) (le-leb a x h) ∙ le-ltb x a h) (λ h. ap (λ (b : Bool). b && ltb x a) (lt-leb a x h)) (le-or-lt a x)
 
 -- no place yet
-pub upto-none : (e : Ends) (x : ℕ) → between (upto e (e .from)) x ≡ false
+pub upto-none : (e : Stretch) (x : ℕ) → between (upto e (e .from)) x ≡ false
 upto-none e x = empty (e .from) x
 
 -- one place more
-pub upto-more : (e : Ends) (i : ℕ) → Walk e i → (x : ℕ) → between (upto e (i + 1)) x ≡ (between (upto e i) x || between (one i) x)
+pub upto-more : (e : Stretch) (i : ℕ) → Walk e i → (x : ℕ) → between (upto e (i + 1)) x ≡ (between (upto e i) x || between (one i) x)
 upto-more e i w x =
     ⊎-elim
     (λ h. ⊎-elim (λ k. at-place h k) (λ k. past-place k) (le-or-lt x i))
@@ -105,7 +105,7 @@ upto-more e i w x =
         or-none false = refl
 
 -- every place
-pub upto-done : (e : Ends) (i : ℕ) → Walk e i → e .to ≤ i → (x : ℕ) → between (upto e i) x ≡ between e x
+pub upto-done : (e : Stretch) (i : ℕ) → Walk e i → e .to ≤ i → (x : ℕ) → between (upto e i) x ≡ between e x
 upto-done e i w h x =
     ⊎-elim
     (λ k. let q : i ≡ e .to = omega arith in ap (λ (n : ℕ). leb (e .from) x && ltb x n) q)
@@ -140,22 +140,22 @@ grow-k true false x y k = refl
 grow-k false b x y k = refl
 
 -- the same of a block of which one axis is walked; i, j and k stand for its other ends
-module _ (s : Slabs) (e : Ends) (n : ℕ) (w : Walk e n) where
-  pub more-i : (j k : Ends) (c : Cell)
+module _ (s : Bands) (e : Stretch) (n : ℕ) (w : Walk e n) where
+  pub more-i : (j k : Stretch) (c : Cell)
       → leftIn (record { i = upto e (n + 1); j = j; k = k }) s c ≡ (leftIn (record { i = upto e n; j = j; k = k }) s c || leftIn (record { i = one n; j = j; k = k }) s c)
   unfolding holds
   more-i j k c =
       ap (λ (t : Bool). t && between j (c .j) && between k (c .k) && keptAll s c) (upto-more e n w (c .i))
       ∙ grow-i (between (upto e n) (c .i)) (between (one n) (c .i)) (between j (c .j)) (between k (c .k)) (keptAll s c)
 
-  pub more-j : (i k : Ends) (c : Cell)
+  pub more-j : (i k : Stretch) (c : Cell)
       → leftIn (record { i = i; j = upto e (n + 1); k = k }) s c ≡ (leftIn (record { i = i; j = upto e n; k = k }) s c || leftIn (record { i = i; j = one n; k = k }) s c)
   unfolding holds
   more-j i k c =
       ap (λ (t : Bool). between i (c .i) && t && between k (c .k) && keptAll s c) (upto-more e n w (c .j))
       ∙ grow-j (between i (c .i)) (between (upto e n) (c .j)) (between (one n) (c .j)) (between k (c .k)) (keptAll s c)
 
-  pub more-k : (i j : Ends) (c : Cell)
+  pub more-k : (i j : Stretch) (c : Cell)
       → leftIn (record { i = i; j = j; k = upto e (n + 1) }) s c ≡ (leftIn (record { i = i; j = j; k = upto e n }) s c || leftIn (record { i = i; j = j; k = one n }) s c)
   unfolding holds
   more-k i j c =
@@ -163,7 +163,7 @@ module _ (s : Slabs) (e : Ends) (n : ℕ) (w : Walk e n) where
       ∙ grow-k (between i (c .i)) (between j (c .j)) (between (upto e n) (c .k)) (between (one n) (c .k)) (keptAll s c)
 
 -- nothing yet, and all
-module _ (s : Slabs) (e : Ends) where
+module _ (s : Bands) (e : Stretch) where
   none-k : (a b k : Bool) → (a && b && false && k) ≡ false
   none-k true true k = refl
   none-k true false k = refl
@@ -173,30 +173,30 @@ module _ (s : Slabs) (e : Ends) where
   none-j true c k = refl
   none-j false c k = refl
 
-  pub none-along-i : (j k : Ends) (c : Cell) → leftIn (record { i = upto e (e .from); j = j; k = k }) s c ≡ false
+  pub none-along-i : (j k : Stretch) (c : Cell) → leftIn (record { i = upto e (e .from); j = j; k = k }) s c ≡ false
   unfolding holds
   none-along-i j k c = ap (λ (t : Bool). t && between j (c .j) && between k (c .k) && keptAll s c) (upto-none e (c .i))
 
-  pub none-along-j : (i k : Ends) (c : Cell) → leftIn (record { i = i; j = upto e (e .from); k = k }) s c ≡ false
+  pub none-along-j : (i k : Stretch) (c : Cell) → leftIn (record { i = i; j = upto e (e .from); k = k }) s c ≡ false
   unfolding holds
   none-along-j i k c =
       ap (λ (t : Bool). between i (c .i) && t && between k (c .k) && keptAll s c) (upto-none e (c .j)) ∙ none-j (between i (c .i)) (between k (c .k)) (keptAll s c)
 
-  pub none-along-k : (i j : Ends) (c : Cell) → leftIn (record { i = i; j = j; k = upto e (e .from) }) s c ≡ false
+  pub none-along-k : (i j : Stretch) (c : Cell) → leftIn (record { i = i; j = j; k = upto e (e .from) }) s c ≡ false
   unfolding holds
   none-along-k i j c =
       ap (λ (t : Bool). between i (c .i) && between j (c .j) && t && keptAll s c) (upto-none e (c .k)) ∙ none-k (between i (c .i)) (between j (c .j)) (keptAll s c)
 
   module _ (n : ℕ) (w : Walk e n) (h : e .to ≤ n) where
-    pub done-i : (j k : Ends) (c : Cell) → leftIn (record { i = upto e n; j = j; k = k }) s c ≡ leftIn (record { i = e; j = j; k = k }) s c
+    pub done-i : (j k : Stretch) (c : Cell) → leftIn (record { i = upto e n; j = j; k = k }) s c ≡ leftIn (record { i = e; j = j; k = k }) s c
     unfolding holds
     done-i j k c = ap (λ (t : Bool). t && between j (c .j) && between k (c .k) && keptAll s c) (upto-done e n w h (c .i))
 
-    pub done-j : (i k : Ends) (c : Cell) → leftIn (record { i = i; j = upto e n; k = k }) s c ≡ leftIn (record { i = i; j = e; k = k }) s c
+    pub done-j : (i k : Stretch) (c : Cell) → leftIn (record { i = i; j = upto e n; k = k }) s c ≡ leftIn (record { i = i; j = e; k = k }) s c
     unfolding holds
     done-j i k c = ap (λ (t : Bool). between i (c .i) && t && between k (c .k) && keptAll s c) (upto-done e n w h (c .j))
 
-    pub done-k : (i j : Ends) (c : Cell) → leftIn (record { i = i; j = j; k = upto e n }) s c ≡ leftIn (record { i = i; j = j; k = e }) s c
+    pub done-k : (i j : Stretch) (c : Cell) → leftIn (record { i = i; j = j; k = upto e n }) s c ≡ leftIn (record { i = i; j = j; k = e }) s c
     unfolding holds
     done-k i j c = ap (λ (t : Bool). between i (c .i) && between j (c .j) && t && keptAll s c) (upto-done e n w h (c .k))
 
@@ -246,8 +246,8 @@ painted-cell r l i j k h g =
         go true f = absurd (z (holds-is i j k c f))
         go false f = sym (ap (λ (t : Bool). cond t 8 (at r l c)) f)
 
--- ---- the whole of a row: no place yet, one more, every place; and it is what the slabs leave of another
-module _ (e : Ends) (j k : ℕ) where
+-- ---- the whole of a row: no place yet, one more, every place; and it is what the bands leave of another
+module _ (e : Stretch) (j k : ℕ) where
   pub none-held : (c : Cell) → holds (rowOf (upto e (e .from)) j k) c ≡ false
   unfolding holds
   none-held c = ap (λ (t : Bool). t && between (one j) (c .j) && between (one k) (c .k)) (upto-none e (c .i))
@@ -262,7 +262,7 @@ module _ (e : Ends) (j k : ℕ) where
   unfolding holds
   done-held n w h c = ap (λ (t : Bool). t && between (one j) (c .j) && between (one k) (c .k)) (upto-done e n w h (c .i))
 
-  pub held-left : (s : Slabs) (a : Ends) → RowRest s e j k → Cut e (restOfRow s j k) a → (c : Cell) → holds (rowOf a j k) c ≡ leftIn (rowOf e j k) s c
+  pub held-left : (s : Bands) (a : Stretch) → RowRest s e j k → Cut e (restOfRow s j k) a → (c : Cell) → holds (rowOf a j k) c ≡ leftIn (rowOf e j k) s c
   unfolding holds
   held-left s a u w c = go (between (one j) (c .j)) (between (one k) (c .k)) refl refl
     where
@@ -305,7 +305,7 @@ module _ (e : Ends) (j k : ℕ) where
 
 -- ---- a layer of a block that the axes leave
 
-pub layer-axes : (s : Slabs) (b : Block) (k : ℕ) → AxesLeave s b → b .k .from ≤ k → k < b .k .to → AxesLeave s (layerOf b k)
+pub layer-axes : (s : Bands) (b : Block) (k : ℕ) → AxesLeave s b → b .k .from ≤ k → k < b .k .to → AxesLeave s (layerOf b k)
 unfolding holds
 layer-axes s b k u h l =
     record {
@@ -318,7 +318,7 @@ layer-axes s b k u h l =
     }
 
 -- cut along i and along j: what is left to test in a row, and that no cell is lost
-module _ (s : Slabs) (fit : SlabsFit s) (b : Block) (k : ℕ) (e f : Ends) (v : Cut (b .i) (acrossY s k) e) (w : Cut (b .j) (acrossX s k) f) where
+module _ (s : Bands) (fit : BandsFit s) (b : Block) (k : ℕ) (e f : Stretch) (v : Cut (b .i) (acrossY s k) e) (w : Cut (b .j) (acrossX s k) f) where
   pub row-rest : AxesLeave s (layerOf b k) → (j : ℕ) → f .from ≤ j → j < f .to → RowRest s e j k
   unfolding holds
   row-rest u j h l =
@@ -367,11 +367,11 @@ module _ (s : Slabs) (fit : SlabsFit s) (b : Block) (k : ℕ) (e f : Ends) (v : 
 
 -- ---- a loop along an axis that stands at n, and has painted a set
 
-pub record Along (r : Axes) (e : Ends) (n : ℕ) (done : Cell → Bool) (before after : List ℕ) : Type 0 where
+pub record Along (r : Axes) (e : Stretch) (n : ℕ) (done : Cell → Bool) (before after : List ℕ) : Type 0 where
   pub walk : Walk e n
   pub painted : Painted r done before after
 
-module _ (r : Axes) (e : Ends) where
+module _ (r : Axes) (e : Stretch) where
   pub along-starts : (p : Cell → Bool) (l : List ℕ) → ((c : Cell) → p c ≡ false) → Along r e (e .from) p l l
   along-starts p l h = record { walk = walk-starts e; painted = painted-none r p l h }
 
@@ -381,13 +381,13 @@ module _ (r : Axes) (e : Ends) where
   pub along-sheet : (n : ℕ) (p : Cell → Bool) (l m : List ℕ) → Along r e n p l m → Sheet r l → Sheet r m
   along-sheet n p l m w s = painted-sheet r p l m (w .painted) s
 
--- ---- what a block and its slabs leave is what the triangle hits
-pub left-hits : (t : List (List ℤ)) (r : Axes) (b : Block) (s : Slabs) → BlockOf t r b → s ≡ slabsOf t → (c : Cell) → leftIn b s c ≡ (isCandidate t r c && touching t c)
+-- ---- what a block and its bands leave is what the triangle hits
+pub left-hits : (t : List (List ℤ)) (r : Axes) (b : Block) (s : Bands) → BlockOf t r b → s ≡ bandsOf t → (c : Cell) → leftIn b s c ≡ (isCandidate t r c && touching t c)
 left-hits t r b s w e c =
-    ap (λ (x : Bool). x && keptAll s c) (block-test t r b w c) ∙ ap (λ (x : Bool). isCandidate t r c && x) (ap (λ (x : Slabs). keptAll x c) e ∙ slabs-touch t c)
+    ap (λ (x : Bool). x && keptAll s c) (block-test t r b w c) ∙ ap (λ (x : Bool). isCandidate t r c && x) (ap (λ (x : Bands). keptAll x c) e ∙ bands-touch t c)
 
 -- and nothing of it is lost where the axes cut the block
-pub clip-left : (s : Slabs) (b a : Block) → SlabsFit s → Clipped (s .axes) b a → (c : Cell) → leftIn a s c ≡ leftIn b s c
+pub clip-left : (s : Bands) (b a : Block) → BandsFit s → Clipped (s .axes) b a → (c : Cell) → leftIn a s c ≡ leftIn b s c
 clip-left s b a f w c = ap (λ (t : Bool). t && keptAll s c) (w .cells c) ∙ go (keptAll s c) refl
   where
     none : (x : Bool) → (x && false) ≡ false

@@ -22,7 +22,7 @@ use borrow.Author.Tests.{lt-ltb, le-ltb, ne-eqb, ltb-true, ltb-false}
 use Rattle.ints.specs.Order.{same-test}
 use Rattle.numbers.specs.declared.Whole.{Whole}
 use Rattle.numbers.specs.declared.Whole.the-variants.{Of, TooLarge, NotANumber}
-use Rattle.numbers.specs.Rounding.{signed, floorZ, limit, pickWhole, within, floorTimes, ceilOf, truncOf, nearestOf, parts, half, cellOf}
+use Rattle.numbers.specs.Rounding.{signed, floorZ, limit, pickWhole, underLimit, floorTimes, ceilOf, truncOf, nearestOf, units, half, cellOf}
 
 -- ---- equal fractions have the same floor
 
@@ -64,14 +64,14 @@ scaled-cross : (k a b c d : ℕ) → a * d ≡ c * b → k * a * d ≡ k * c * b
 scaled-cross k a b c d e = mul-assoc k a d ∙ ap (λ (x : ℕ). k * x) e ∙ sym (mul-assoc k c b)
 
 -- ---- the floor of k x, of any fraction that is x
-pub floor-of-value : (k : ℕ) (v : Float) (s : Bool) (a c : ℕ) → 0 < c → HasValue v s a c → floorTimes k v ≡ within a c (floorZ (signed s (k * a)) c)
+pub floor-of-value : (k : ℕ) (v : Float) (s : Bool) (a c : ℕ) → 0 < c → HasValue v s a c → floorTimes k v ≡ underLimit a c (floorZ (signed s (k * a)) c)
 unfolding floorTimes
 floor-of-value k nan s a c C h = absurd h
 floor-of-value k (inf t) s a c C h = absurd h
 floor-of-value k (fin t m e) s a c C h =
-    ap (λ (b : Bool). within (m * up e) (down e) (floorZ (signed b (k * (m * up e))) (down e))) (h .0)
+    ap (λ (b : Bool). underLimit (m * up e) (down e) (floorZ (signed b (k * (m * up e))) (down e))) (h .0)
     ∙ ap (λ (b : Bool). pickWhole b (Of (floorZ (signed s (k * (m * up e))) (down e))) TooLarge) (within-same (m * up e) (down e) a c (limit) (down-pos e) C (h .1))
-    ∙ ap (λ (z : ℤ). within a c z) (floor-same s (k * (m * up e)) (down e) (k * a) c (down-pos e) C (scaled-cross k (m * up e) (down e) a c (h .1)))
+    ∙ ap (λ (z : ℤ). underLimit a c z) (floor-same s (k * (m * up e)) (down e) (k * a) c (down-pos e) C (scaled-cross k (m * up e) (down e) a c (h .1)))
 
 -- ---- what a bit pattern's fields stand for
 
@@ -90,7 +90,7 @@ units-cross q p x h =
 
 -- q * 2 ^ x units of 2 ^ -149, under limit
 floor-units : (p x q : ℕ) (s : Bool) → p + x ≤ 179 → q * 2 ^ x < 2 ^ 189
-    → within (q * 2 ^ x) (2 ^ 149) (floorZ (signed s (2 ^ p * (q * 2 ^ x))) (2 ^ 149)) ≡ Of (floorZ (signed s (q * 2 ^ 30)) (2 ^ (179 - (p + x))))
+    → underLimit (q * 2 ^ x) (2 ^ 149) (floorZ (signed s (2 ^ p * (q * 2 ^ x))) (2 ^ 149)) ≡ Of (floorZ (signed s (q * 2 ^ 30)) (2 ^ (179 - (p + x))))
 floor-units p x q s h l =
     ap (λ (b : Bool). pickWhole b (Of (floorZ (signed s (2 ^ p * (q * 2 ^ x))) (2 ^ 149))) TooLarge) (lt-ltb (q * 2 ^ x) (limit * 2 ^ 149) l)
     ∙ ap Of (floor-same s (2 ^ p * (q * 2 ^ x)) (2 ^ 149) (q * 2 ^ 30) (2 ^ (179 - (p + x))) (pow-pos 149) (pow-pos (179 - (p + x))) (units-cross q p x h))
@@ -248,7 +248,7 @@ ceil-is (inf s) = refl
 ceil-is (fin s m e) =
     let n = m * up e in
     sym (map-pick negℤ (ltb n (limit * down e)) (floorZ (signed (not s) (1 * n)) (down e))
-    ∙ ap (λ (k : ℕ). within n (down e) (negℤ (floorZ (signed (not s) k) (down e)))) (one-mul n))
+    ∙ ap (λ (k : ℕ). underLimit n (down e) (negℤ (floorZ (signed (not s) k) (down e)))) (one-mul n))
 
 -- half of one more
 abbrev pub halved : ℤ → ℤ
@@ -299,7 +299,7 @@ nearest-is k (inf s) = refl
 nearest-is k (fin s m e) =
     let n = m * up e in
     let a = signed s (2 * k * n) in
-    ap (λ (z : ℤ). within n (down e) z) (half-of-floor a (down e) (down-pos e)) ∙ sym (map-pick halved (ltb n (limit * down e)) (floorZ a (down e)))
+    ap (λ (z : ℤ). underLimit n (down e) z) (half-of-floor a (down e) (down-pos e)) ∙ sym (map-pick halved (ltb n (limit * down e)) (floorZ a (down e)))
 
 -- ---- the floor fits
 
@@ -393,9 +393,9 @@ pub trunc-positive : (x : Float) → lt x (ofBits binary32 0) ≡ false → floo
 unfolding floorTimes truncOf lt ofBits
 trunc-positive nan h = refl
 trunc-positive (inf s) h = refl
-trunc-positive (fin false m e) h = ap (λ (k : ℕ). within (m * up e) (down e) (pos (k / down e))) (one-mul (m * up e))
+trunc-positive (fin false m e) h = ap (λ (k : ℕ). underLimit (m * up e) (down e) (pos (k / down e))) (one-mul (m * up e))
 trunc-positive (fin true m e) h =
-    ap (within (m * up e) (down e)) (at-zero (m * up e) (down e) (no-size (m * up e) (0 * down e) (ltb-false 0 (m * up e * 1 + 0 * down e) h)))
+    ap (underLimit (m * up e) (down e)) (at-zero (m * up e) (down e) (no-size (m * up e) (0 * down e) (ltb-false 0 (m * up e * 1 + 0 * down e) h)))
 
 -- ---- the cell of a coordinate
 
@@ -410,10 +410,10 @@ Fitting (Of z) = SFits w64 z
 Fitting TooLarge = Unit
 Fitting NotANumber = Unit
 
-pub nearest-fits : (x : Float) → Fitting (nearestOf parts x)
-nearest-fits x = subst Fitting (sym (nearest-is parts x)) (go (floorTimes (2 * parts) x) (floor-under (2 * parts) x (lit< tt)))
+pub nearest-fits : (x : Float) → Fitting (nearestOf units x)
+nearest-fits x = subst Fitting (sym (nearest-is units x)) (go (floorTimes (2 * units) x) (floor-under (2 * units) x (lit< tt)))
   where
-    go : (w : Whole) → Under (2 * parts * limit) w → Fitting (mapWhole halved w)
+    go : (w : Whole) → Under (2 * units * limit) w → Fitting (mapWhole halved w)
     go (Of z) h = halved-fits z (lt-of-lt-of-le h (lit≤ tt))
     go TooLarge h = tt
     go NotANumber h = tt

@@ -14,7 +14,7 @@ use borrow.Author.Tests.{lt-ltb, le-ltb, ltb-false}
 use Rattle.ints.specs.Order.{leZ-refl, leZ-antisym, leZ-neg}
 use Rattle.ints.specs.Ring.{mul-neg}
 use Rattle.numbers.specs.declared.Whole.the-variants.{Of, TooLarge}
-use Rattle.numbers.specs.Rounding.{IsFloor, IsCeil, IsNearest, IsCeiling, IsTruncation, limit, signed, floorZ, pickWhole, within, nearestOf, ceilOf, truncOf}
+use Rattle.numbers.specs.Rounding.{IsFloor, IsCeil, IsNearest, IsCeiling, IsTruncation, limit, signed, floorZ, pickWhole, underLimit, nearestOf, ceilOf, truncOf}
 use Rattle.numbers.proofs.Laws.{pred-lt, lt-pred}
 
 below-neg : (n : ℕ) (a : ℕ) → 0 < n → T (leZ (negℤ (pos n)) (pos a))
@@ -66,10 +66,10 @@ other-kinds : (q : ℤ) → TooLarge ≡ Of q → ⊥
 other-kinds q e = let z : _≡_ {A = ℕ} 0 1 = cc in omega arith
 
 module _ (n d : ℕ) (z : ℤ) where
-  pub answered : (P : ℤ → Type 0) → n < limit * d → P z → ((p q : ℤ) → P p → P q → p ≡ q) → (q : ℤ) → (within n d z ≡ Of q) ↔ P q
+  pub answered : (P : ℤ → Type 0) → n < limit * d → P z → ((p q : ℤ) → P p → P q → p ≡ q) → (q : ℤ) → (underLimit n d z ≡ Of q) ↔ P q
   answered P l h one q =
       let e = lt-ltb n (limit * d) l in
-      let is : within n d z ≡ Of z = ap (λ (b : Bool). pickWhole b (Of z) TooLarge) e in (
+      let is : underLimit n d z ≡ Of z = ap (λ (b : Bool). pickWhole b (Of z) TooLarge) e in (
         (λ r. let s : z ≡ q = same z q (sym is ∙ r) in subst P s h),
         (λ r. is ∙ ap Of (one z q h r)),
       )
@@ -77,7 +77,7 @@ module _ (n d : ℕ) (z : ℤ) where
       same : (p q : ℤ) → Of p ≡ Of q → p ≡ q
       same p q e = cc
 
-  pub too-large : (within n d z ≡ TooLarge) ↔ (limit * d ≤ n)
+  pub too-large : (underLimit n d z ≡ TooLarge) ↔ (limit * d ≤ n)
   too-large = ((λ r. ltb-false n (limit * d) (go (ltb n (limit * d)) refl r)), (λ l. ap (λ (b : Bool). pickWhole b (Of z) TooLarge) (le-ltb n (limit * d) l)))
     where
       go : (b : Bool) → ltb n (limit * d) ≡ b → pickWhole b (Of z) TooLarge ≡ TooLarge → ltb n (limit * d) ≡ false

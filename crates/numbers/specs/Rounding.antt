@@ -29,7 +29,7 @@ IsCeil a d q = (k : ℤ) → T (leZ a (k *ℤ pos d)) ↔ T (leZ q k)
 abbrev pub top : Bool → ℕ → ℤ → ℤ
 top s m e = signed s (m * up e)
 
--- 01, Sizing and placement: "q = the largest whole number not above 256 t + 1/2, taken of the exact t", for k parts of a side: k t + 1/2 is (2 k n + d) / (2 d) of t = n / d
+-- 01, Sizing and placement: "q = the largest whole number not above 256 t + 1/2, taken of the exact t", for k units of a side: k t + 1/2 is (2 k n + d) / (2 d) of t = n / d
 abbrev pub IsNearest : ℕ → Bool → ℕ → ℤ → ℤ → Type 0
 IsNearest k s m e q = IsFloor (signed s (2 * k * (m * up e)) +ℤ pos (down e)) (2 * down e) q
 
@@ -42,13 +42,13 @@ abbrev pub IsTruncation : Bool → ℕ → ℤ → ℤ → Type 0
 IsTruncation false m e q = IsFloor (top false m e) (down e) q
 IsTruncation true m e q = IsCeil (top true m e) (down e) q
 
--- ---- how many parts a cell's side has: 2 ^ splits
+-- ---- how many units a cell's side has: 2 ^ splits
 
 abbrev pub splits : ℕ
 splits = 8
 
-abbrev pub parts : ℕ
-parts = 2 ^ splits
+abbrev pub units : ℕ
+units = 2 ^ splits
 
 -- half a side
 abbrev pub half : ℕ
@@ -69,33 +69,33 @@ pickWhole true a b = a
 pickWhole false a b = b
 
 -- the answer for a value of magnitude n / d: z where that is under the limit
-abbrev pub within : ℕ → ℕ → ℤ → Whole
-within n d z = pickWhole (ltb n (limit * d)) (Of z) TooLarge
+abbrev pub underLimit : ℕ → ℕ → ℤ → Whole
+underLimit n d z = pickWhole (ltb n (limit * d)) (Of z) TooLarge
 
 -- the largest whole number not above k x
 unfoldable pub floorTimes : ℕ → Float → Whole
 floorTimes k nan = NotANumber
 floorTimes k (inf s) = TooLarge
-floorTimes k (fin s m e) = within (m * up e) (down e) (floorZ (signed s (k * (m * up e))) (down e))
+floorTimes k (fin s m e) = underLimit (m * up e) (down e) (floorZ (signed s (k * (m * up e))) (down e))
 
 -- the least whole number not below x: the floor of -x, negated
 unfoldable pub ceilOf : Float → Whole
 ceilOf nan = NotANumber
 ceilOf (inf s) = TooLarge
-ceilOf (fin s m e) = within (m * up e) (down e) (negℤ (floorZ (signed (not s) (m * up e)) (down e)))
+ceilOf (fin s m e) = underLimit (m * up e) (down e) (negℤ (floorZ (signed (not s) (m * up e)) (down e)))
 
 -- x without its fraction
 unfoldable pub truncOf : Float → Whole
 truncOf nan = NotANumber
 truncOf (inf s) = TooLarge
-truncOf (fin s m e) = within (m * up e) (down e) (signed s (m * up e / down e))
+truncOf (fin s m e) = underLimit (m * up e) (down e) (signed s (m * up e / down e))
 
 -- the largest whole number not above k x + 1/2
 unfoldable pub nearestOf : ℕ → Float → Whole
 nearestOf k nan = NotANumber
 nearestOf k (inf s) = TooLarge
-nearestOf k (fin s m e) = within (m * up e) (down e) (floorZ (signed s (2 * k * (m * up e)) +ℤ pos (down e)) (2 * down e))
+nearestOf k (fin s m e) = underLimit (m * up e) (down e) (floorZ (signed s (2 * k * (m * up e)) +ℤ pos (down e)) (2 * down e))
 
 -- 01, Sizing and placement: "Its cell is (q + 128) div 256, rounded down."
 abbrev pub cellOf : ℤ → ℤ
-cellOf q = floorZ (q +ℤ pos half) parts
+cellOf q = floorZ (q +ℤ pos half) units

@@ -1,13 +1,13 @@
-// Whole numbers of an f32, from its bits: the ceiling, the truncation, and the number of parts of a
+// Whole numbers of an f32, from its bits: the ceiling, the truncation, and the number of units of a
 // cell's side that is nearest. Each has an answer for every f32.
 ghost use mathlib.Core.Path.{_≡_};
 ghost use Prim.Native.Nat.{_*_, _^_, _≤_, _<_};
-ghost use Rattle.numbers.specs.Rounding.{signed, floorZ, floorTimes, ceilOf, truncOf, nearestOf, parts, cellOf};
+ghost use Rattle.numbers.specs.Rounding.{signed, floorZ, floorTimes, ceilOf, truncOf, nearestOf, units, cellOf};
 
-// A cell's side has 2 ^ SPLITS parts.
+// A cell's side has 2 ^ SPLITS units.
 const SPLITS: u32 = 8;
 
-// A cell's side in parts, and half of it.
+// A cell's side in units, and half of it.
 pub const SIDE: i64 = 1 << SPLITS;
 
 pub const HALF: i64 = 1 << (SPLITS - 1);
@@ -80,9 +80,9 @@ pub fn trunc(x: f32) -> Whole
     floor_scaled(x, 0)
 }
 
-// The largest whole number not above parts * t + 1/2: half of one more than the floor of 2 * parts * t.
-pub fn to_parts(t: f32) -> Whole
-    ensures { λ r. ⌜ r ≡ nearestOf parts t ⌝ }
+// The largest whole number not above units * t + 1/2: half of one more than the floor of 2 * units * t.
+pub fn to_units(t: f32) -> Whole
+    ensures { λ r. ⌜ r ≡ nearestOf units t ⌝ }
 {
     match floor_scaled(t, SPLITS + 1) {
         Whole::Of(n) => Whole::Of((n + 1) >> 1),
@@ -91,7 +91,7 @@ pub fn to_parts(t: f32) -> Whole
     }
 }
 
-// The cell of a coordinate of q parts: (q + half a side) div a side, rounded down. Half of one more
+// The cell of a coordinate of q units: (q + half a side) div a side, rounded down. Half of one more
 // than the whole halves in q is the same, and it fits for every q.
 pub fn cell_of(q: i64) -> i64
     ensures { λ r. ⌜ r ≡ cellOf q ⌝ }

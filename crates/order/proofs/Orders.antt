@@ -13,7 +13,7 @@ use Rattle.grid.specs.declared.Axes.{Axes}
 use Rattle.grid.specs.declared.Cell.{Cell}
 use Rattle.grid.specs.Grid.{Sound, InGrid, cells}
 use Rattle.grid.proofs.First.{le-or-lt}
-use Rattle.order.specs.Order.{row, rows, slabs, inOrder, keep, Stands, key, nextCell}
+use Rattle.order.specs.Order.{row, rows, slabs, inOrder, keep, AtOrPast, key, nextCell}
 
 -- either way of a test
 pub by-bool : {A : Type 0} (x : Bool) → (x ≡ true → A) → (x ≡ false → A) → A
@@ -44,10 +44,10 @@ module _ (r : Axes) (c : Cell) where
       (le-or-lt (r .r2) (c .k + 1))
 
 -- where a walk stands, as long as it is not past the last cell
-pub stands-in : (r : Axes) (c : Cell) → Stands r c → c .i < r .r0 → InGrid r c
+pub stands-in : (r : Axes) (c : Cell) → AtOrPast r c → c .i < r .r0 → InGrid r c
 stands-in r c s h = record { i-in = h; j-in = s .j-high; k-in = s .k-high }
 
-pub first-stands : (r : Axes) → Sound r → Stands r (record { i = 0; j = 0; k = 0 })
+pub first-stands : (r : Axes) → Sound r → AtOrPast r (record { i = 0; j = 0; k = 0 })
 first-stands r s = record { i-high = omega arith; j-high = s .axis1 .some; k-high = s .axis2 .some }
 
 -- what a walk has before it falls
@@ -154,7 +154,7 @@ keep-append ok (c ∷ xs) ys = by-bool (ok c) (λ e. rw e (ap (λ (l : List Cell
 
 -- a pass over the grid that has done the cells of `done` and stands at c
 pub record Passing (r : Axes) (ok : Cell → Bool) (done : List Cell) (c : Cell) : Type 0 where
-  pub on : Stands r c
+  pub on : AtOrPast r c
   pub split : done ++ keep ok (left r c) ≡ keep ok (inOrder r)
 
 module _ (r : Axes) (s : Sound r) (ok : Cell → Bool) where
@@ -170,7 +170,7 @@ module _ (r : Axes) (s : Sound r) (ok : Cell → Bool) where
     pub passing-fits : length done ≤ length (keep ok (inOrder r))
     passing-fits = omega (arith, length-append done (keep ok (left r c)), ap (λ (cs : List Cell). length cs) (a .split))
 
-    module _ (h : c .i < r .r0) (d : Cell) (e : d ≡ nextCell r c) (o : Stands r d) where
+    module _ (h : c .i < r .r0) (d : Cell) (e : d ≡ nextCell r c) (o : AtOrPast r d) where
       now-left : left r c ≡ c ∷ left r d
       now-left = left-step r s c (stands-in r c (a .on) h) ∙ ap (λ (x : Cell). c ∷ left r x) (sym e)
 

@@ -6,7 +6,8 @@ use lib.Dec.{ltb}
 use Rattle.grid.specs.declared.Axes.{Axes}
 use Rattle.grid.specs.declared.Cell.{Cell}
 use Rattle.grid.specs.declared.LabelSet.{LabelSet}
-use Rattle.grid.specs.Checks.{spans}
+use Rattle.grid.specs.Checks.{labelRanges}
+use Rattle.grid.specs.Labels.{UNDEFINED, SURFACE}
 
 -- n cells along k, from (i, j, k) on
 unfoldable pub row : ℕ → ℕ → ℕ → ℕ → List Cell
@@ -44,12 +45,12 @@ joinAll f (x ∷ xs) = f x ++ joinAll f xs
 
 -- 01, List: "a label over 8 is 11": the labels that are no fault there
 abbrev pub knownLabels : LabelSet
-knownLabels = spans 0 8 0 8
+knownLabels = labelRanges UNDEFINED SURFACE UNDEFINED SURFACE
 
 -- ---- a walk in list order
 
 -- where it stands: at a cell, or past the last, where i is r0
-pub record Stands (r : Axes) (c : Cell) : Type 0 where
+pub record AtOrPast (r : Axes) (c : Cell) : Type 0 where
   pub i-high : c .i ≤ r .r0
   pub j-high : c .j < r .r1
   pub k-high : c .k < r .r2

@@ -8,10 +8,11 @@ use lib.ListN.{length, getD, drop}
 use Rattle.grid.specs.declared.Checked.{Checked}
 use Rattle.grid.specs.declared.Checked.the-variants.{Fine}
 use Rattle.grid.specs.Answers.{faultIf}
+use Rattle.grid.specs.Refusals.{NO-ROOM}
 
 -- "14: an output buffer is shorter than the answer": of a buffer's length and of the numbers that the answer has
 abbrev pub roomFault : ℕ → ℕ → Checked
-roomFault len need = faultIf (ltb len need) 14 0 Fine
+roomFault len need = faultIf (ltb len need) NO-ROOM 0 Fine
 
 -- 01, Input bounds and refusals: "on success, output past the answer stays as it was". The buffer o with xs written over its front
 unfoldable pub over : {A : Type 0} → List A → List A → List A

@@ -2,19 +2,21 @@
 // lent output.
 ghost use mathlib.Core.Path.{_≡_};
 ghost use Rattle.grid.specs.Grid.{Sound, InGrid};
-ghost use Rattle.order.specs.Order.{nextCell, Stands, knownLabels};
+ghost use Rattle.order.specs.Order.{nextCell, AtOrPast, knownLabels};
 ghost use Rattle.order.specs.Output.{roomFault};
 use grid::Axes;
 use grid::Cell;
 use grid::Checked;
+use grid::LabelRange;
 use grid::LabelSet;
-use grid::Span;
+use grid::SURFACE;
+use grid::UNDEFINED;
 
 // The next cell in list order; after the last, i is r0.
 pub fn following(r: Axes, c: Cell) -> Cell
     requires { ⌜ Sound r ⌝ }
     requires { ⌜ InGrid r c ⌝ }
-    ensures { λ d. ⌜ (d ≡ nextCell r c) × Stands r d ⌝ }
+    ensures { λ d. ⌜ (d ≡ nextCell r c) × AtOrPast r d ⌝ }
 {
     let i = c.i;
     let j = c.j;
@@ -36,9 +38,13 @@ pub fn following(r: Axes, c: Cell) -> Cell
 pub fn known_labels() -> LabelSet
     ensures { λ s. ⌜ s ≡ knownLabels ⌝ }
 {
+    let taken = LabelRange {
+        low: UNDEFINED,
+        high: SURFACE,
+    };
     LabelSet {
-        one: Span { low: 0, high: 8 },
-        other: Span { low: 0, high: 8 },
+        one: taken,
+        other: taken,
     }
 }
 
@@ -47,7 +53,7 @@ pub fn room_fault(len: usize, need: u64) -> Checked
     ensures { λ f. ⌜ f ≡ roomFault len need ⌝ }
 {
     if (len as u64) < need {
-        return grid::fault(14, 0);
+        return grid::fault(grid::NO_ROOM, 0);
     }
     Checked::Fine
 }

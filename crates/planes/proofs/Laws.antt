@@ -15,7 +15,7 @@ use Rattle.grid.specs.declared.Placement.{Placement}
 use Rattle.grid.specs.Answers.{refuses, isOneOf, Finds, Gives}
 use Rattle.grid.proofs.Checks.{finds-if, finds-then, finds-first, gives-unless}
 use Rattle.sizing.specs.Points.{bounded, lengthFault, numbersFault}
-use Rattle.mesh.specs.Faults.{originFault, leastScale, greatestScale, lentFault}
+use Rattle.marking_mesh.specs.Faults.{originFault, leastScale, greatestScale, lentFault}
 use Rattle.order.specs.Output.{roomFault}
 use Rattle.order.proofs.Outputs.{finds-room, refused-same}
 use Rattle.planes.specs.declared.Planing.{Planing}
@@ -25,30 +25,30 @@ use Rattle.planes.specs.declared.Splitting.the-variants as splitting
 use Rattle.planes.specs.declared.Side.the-variants.{First, Second}
 use Rattle.planes.specs.Planes.{outcomeOfPlanes, axisFault, outOfRange, planeCount, planeAt, planesOf, planesFault, allPlanesFault, planesAnswer, planesBuffer}
 use Rattle.planes.specs.Split.{outcomeOfSplit, exactSum, goesTo, splitCount, dFault, splitFault, allSplitFault, splitAnswer, splitBuffer}
-use Rattle.axial.proofs.Ranges.{planes-length, planes-at}
+use Rattle.planes_range.proofs.Ranges.{planes-length, planes-at}
 
 -- ---- which numbers the calls give
 
 finds-axis : (ns : List ℕ) (axis : ℕ) → T (isOneOf 12 ns) → Finds ns (axisFault axis)
 finds-axis ns axis h = finds-if ns (ltb 2 axis) 12 0 Fine h tt
 
-pub planes-numbers : (at : Placement) (axis low high best step : ℕ) (o : List Float) → Gives (3 ∷ 5 ∷ 12 ∷ 14 ∷ []) (planesAnswer at axis low high best step o)
-planes-numbers at axis low high best step o = gives-unless ns (allPlanesFault at axis low high best step (length o)) _ all (λ f. tt)
+pub planes-numbers : (placement : Placement) (axis low high best step : ℕ) (o : List Float) → Gives (3 ∷ 5 ∷ 12 ∷ 14 ∷ []) (planesAnswer placement axis low high best step o)
+planes-numbers placement axis low high best step o = gives-unless ns (allPlanesFault placement axis low high best step (length o)) _ all (λ f. tt)
   where
     ns : List ℕ
     ns = 3 ∷ 5 ∷ 12 ∷ 14 ∷ []
 
-    lent : Finds ns (lentFault at)
-    lent = finds-if ns (not (le leastScale (at .scale) && le (at .scale) greatestScale && eq (at .reciprocal) (div binary32 (fin false 1 (pos 0)) (at .scale)))) 5 0 Fine tt tt
+    lent : Finds ns (lentFault placement)
+    lent = finds-if ns (not (le leastScale (placement .scale) && le (placement .scale) greatestScale && eq (placement .reciprocal) (div binary32 (fin false 1 (pos 0)) (placement .scale)))) 5 0 Fine tt tt
 
-    before : Finds ns (planesFault at axis low high best step)
+    before : Finds ns (planesFault placement axis low high best step)
     before =
-        finds-then ns (originFault at) _ (finds-first ns 3 (λ n. 0 + n) (bounded 20) (at .x ∷ at .y ∷ at .z ∷ []) tt)
-        (finds-then ns (lentFault at) _ lent
+        finds-then ns (originFault placement) _ (finds-first ns 3 (λ n. 0 + n) (bounded 20) (placement .x ∷ placement .y ∷ placement .z ∷ []) tt)
+        (finds-then ns (lentFault placement) _ lent
         (finds-then ns (axisFault axis) _ (finds-axis ns axis tt) (finds-if ns (outOfRange low high best step) 12 0 Fine tt tt)))
 
-    all : Finds ns (allPlanesFault at axis low high best step (length o))
-    all = finds-then ns (planesFault at axis low high best step) _ before (finds-room ns (length o) (planeCount low high best step) tt)
+    all : Finds ns (allPlanesFault placement axis low high best step (length o))
+    all = finds-then ns (planesFault placement axis low high best step) _ before (finds-room ns (length o) (planeCount low high best step) tt)
 
 pub split-numbers : (ps : List Float) (axis : ℕ) (d : Float) (above below : List Float) → Gives (1 ∷ 3 ∷ 12 ∷ 14 ∷ []) (splitAnswer ps axis d above below)
 split-numbers ps axis d above below = gives-unless ns (allSplitFault ps axis d (length above) (length below)) _ all (λ f. tt)
@@ -70,9 +70,9 @@ split-numbers ps axis d above below = gives-unless ns (allSplitFault ps axis d (
 
 -- ---- a refusal leaves every lent number
 
-pub planes-refused-same : (at : Placement) (axis low high best step : ℕ) (o : List Float) (n k : ℕ)
-    → planesAnswer at axis low high best step o ≡ refuses n k → planesBuffer at axis low high best step o ≡ o
-planes-refused-same at axis low high best step o n k h = refused-same (allPlanesFault at axis low high best step (length o)) _ n k o _ h
+pub planes-refused-same : (placement : Placement) (axis low high best step : ℕ) (o : List Float) (n k : ℕ)
+    → planesAnswer placement axis low high best step o ≡ refuses n k → planesBuffer placement axis low high best step o ≡ o
+planes-refused-same placement axis low high best step o n k h = refused-same (allPlanesFault placement axis low high best step (length o)) _ n k o _ h
 
 pub split-refused-same : (ps : List Float) (axis : ℕ) (d : Float) (above below : List Float) (n k : ℕ) → splitAnswer ps axis d above below ≡ refuses n k
     → (splitBuffer First ps axis d above above below ≡ above) × (splitBuffer Second ps axis d below above below ≡ below)
@@ -100,10 +100,10 @@ splitting-one (splitting.Refused f) (splitting.Refused g) h =
     let k : f .place ≡ g .place = cc in
     λ t. splitting.Refused (record { number = e t; place = k t })
 
-pub planes-settled : (at : Placement) (axis low high best step : ℕ) (o : List Float) (a b : Planing) (m n : List Float)
-    → outcomeOfPlanes a ≡ planesAnswer at axis low high best step o → outcomeOfPlanes b ≡ planesAnswer at axis low high best step o
-    → m ≡ planesBuffer at axis low high best step o → n ≡ planesBuffer at axis low high best step o → (a ≡ b) × (m ≡ n)
-planes-settled at axis low high best step o a b m n e f g h = (planing-one a b (e ∙ sym f), g ∙ sym h)
+pub planes-settled : (placement : Placement) (axis low high best step : ℕ) (o : List Float) (a b : Planing) (m n : List Float)
+    → outcomeOfPlanes a ≡ planesAnswer placement axis low high best step o → outcomeOfPlanes b ≡ planesAnswer placement axis low high best step o
+    → m ≡ planesBuffer placement axis low high best step o → n ≡ planesBuffer placement axis low high best step o → (a ≡ b) × (m ≡ n)
+planes-settled placement axis low high best step o a b m n e f g h = (planing-one a b (e ∙ sym f), g ∙ sym h)
 
 pub split-settled : (ps : List Float) (axis : ℕ) (d : Float) (above below : List Float) (a b : Splitting) (m n u v : List Float)
     → outcomeOfSplit a ≡ splitAnswer ps axis d above below → outcomeOfSplit b ≡ splitAnswer ps axis d above below

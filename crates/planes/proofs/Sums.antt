@@ -14,7 +14,7 @@ use Rattle.grid.proofs.Checks.{passed, both-fine, or-false, first-fine}
 use Rattle.numbers.proofs.Sign.{Sides, add-sides}
 use Rattle.sizing.specs.Points.{bounded, lengthFault, numbersFault}
 use Rattle.sizing.specs.Sizing.{points, coord}
-use Rattle.points.proofs.Laws.{between-powers}
+use Rattle.sizing_points.proofs.Laws.{between-powers}
 use Rattle.order.specs.Order.{chosen, joinAll}
 use Rattle.order.specs.Output.{Written, roomFault}
 use Rattle.order.proofs.Lists.{chosen-with, chosen-without, chosen-most, chosen-rises, join-append, join-one, join-length, front-then, written-three}
@@ -23,7 +23,7 @@ use Rattle.planes.specs.declared.Side.{Side}
 use Rattle.planes.specs.declared.Side.the-variants.{First, Second}
 use Rattle.planes.specs.Planes.{axisFault}
 use Rattle.planes.specs.Split.{exactSum, goesTo, pointOf, splitCount, splitTo, dFault, splitFault, roomsFault, Bounded}
-use Rattle.axial.proofs.Ranges.{axis-fine}
+use Rattle.planes_range.proofs.Ranges.{axis-fine}
 
 -- ---- the bound on d, as the code has it
 

@@ -6,13 +6,13 @@ use lib.Ieee.{Float}
 use Rattle.grid.specs.declared.Checked.{Checked}
 use Rattle.grid.specs.declared.Placement.{Placement}
 use Rattle.grid.specs.Answers.{Outcome, answers, refuses, _andThen_, unless, lentAfter}
-use Rattle.mesh.specs.Mesh.{originAlong}
+use Rattle.marking_mesh.specs.Mesh.{originAlong}
 use Rattle.order.specs.Output.{roomFault, over}
 use Rattle.planes.specs.declared.Planes.{Planes}
 use Rattle.planes.specs.declared.Planing.{Planing}
 use Rattle.planes.specs.declared.Planing.the-variants.{Planned, Refused}
-pub use Rattle.axial.specs.Axial.{axisFault, outOfRange, rangeFault, firstPlane, lastPlane, pastPlane, planeCount, planesFault}
-unfoldable pub use Rattle.axial.specs.Axial.{planeAt, planesOf}
+pub use Rattle.planes_range.specs.Axial.{axisFault, outOfRange, planeRangeFault, firstPlane, lastPlane, pastPlane, planeCount, planesFault}
+unfoldable pub use Rattle.planes_range.specs.Axial.{planeAt, planesOf}
 
 -- 01's number and values for each case of `Planing`
 abbrev pub outcomeOfPlanes : Planing → Outcome Planes
@@ -21,13 +21,13 @@ outcomeOfPlanes (Refused f) = refuses (f .number) (f .place)
 
 -- the whole call: 3, 5 and 12, then 14
 abbrev pub allPlanesFault : Placement → ℕ → ℕ → ℕ → ℕ → ℕ → ℕ → Checked
-allPlanesFault at axis low high best step len = planesFault at axis low high best step andThen roomFault len (planeCount low high best step)
+allPlanesFault placement axis low high best step len = planesFault placement axis low high best step andThen roomFault len (planeCount low high best step)
 
 abbrev pub planesAnswer : Placement → ℕ → ℕ → ℕ → ℕ → ℕ → List Float → Outcome Planes
-planesAnswer at axis low high best step o =
-    unless (allPlanesFault at axis low high best step (length o)) (answers (record { first = firstPlane low best step; count = planeCount low high best step }))
+planesAnswer placement axis low high best step o =
+    unless (allPlanesFault placement axis low high best step (length o)) (answers (record { first = firstPlane low best step; count = planeCount low high best step }))
 
 abbrev pub planesBuffer : Placement → ℕ → ℕ → ℕ → ℕ → ℕ → List Float → List Float
-planesBuffer at axis low high best step o =
-    lentAfter (allPlanesFault at axis low high best step (length o)) o
-    (over (planesOf (originAlong at axis) (at .scale) (firstPlane low best step) (planeCount low high best step)) o)
+planesBuffer placement axis low high best step o =
+    lentAfter (allPlanesFault placement axis low high best step (length o)) o
+    (over (planesOf (originAlong placement axis) (placement .scale) (firstPlane low best step) (planeCount low high best step)) o)

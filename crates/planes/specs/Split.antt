@@ -10,6 +10,7 @@ use lib.Ieee.{Float, nan, inf, fin, up, down}
 use Rattle.grid.specs.declared.Checked.{Checked}
 use Rattle.grid.specs.declared.Checked.the-variants.{Fine}
 use Rattle.grid.specs.Answers.{Outcome, answers, refuses, faultIf, _andThen_, unless, lentAfter}
+use Rattle.grid.specs.Refusals.{BAD-NUMBER}
 use Rattle.numbers.specs.Rounding.{signed}
 use Rattle.sizing.specs.Points.{bounded, lengthFault, numbersFault}
 use Rattle.sizing.specs.Sizing.{points, coord}
@@ -56,7 +57,7 @@ splitTo side ps axis d = joinAll (pointOf ps) (splitPoints side ps axis d)
 
 -- "3: .. a plane's d likewise, but over 2^30"; "a lent origin or d is numbered before them"
 abbrev pub dFault : Float → Checked
-dFault d = faultIf (not (bounded 30 d)) 3 0 Fine
+dFault d = faultIf (not (bounded 30 d)) BAD-NUMBER 0 Fine
 
 -- 14 of the two outputs, of lengths m and n, to which a and b points go
 abbrev pub roomsFault : ℕ → ℕ → ℕ → ℕ → Checked

@@ -31,7 +31,7 @@ pub enum Planing {
 // The planes about the plane `best` of an axis that lie within a step of it and from low to high: writes
 // the d of each, or refuses and writes nothing.
 pub fn planes_about(
-    at: Placement,
+    placement: Placement,
     axis: usize,
     low: usize,
     high: usize,
@@ -39,19 +39,25 @@ pub fn planes_about(
     step: usize,
     ds: &mut [f32],
 ) -> Planing
-    ensures { λ a. ⌜ outcomeOfPlanes a ≡ planesAnswer at axis low high best step (now (ds .entry)) ⌝ }
-    ensures { λ _. ⌜ now (ds .exit) ≡ planesBuffer at axis low high best step (now (ds .entry)) ⌝ }
+    ensures { λ a. ⌜ outcomeOfPlanes a ≡ planesAnswer placement axis low high best step (now (ds .entry)) ⌝ }
+    ensures { λ _. ⌜ now (ds .exit) ≡ planesBuffer placement axis low high best step (now (ds .entry)) ⌝ }
 {
-    match axial::planes_fault(at, axis, low, high, best, step) {
+    match planes_range::planes_fault(placement, axis, low, high, best, step) {
         Checked::Fault(f) => Planing::Refused(f),
         Checked::Fine => {
-            let first = axial::first_plane(low, best, step);
-            let past = axial::past_plane(high, best, step);
+            let first = planes_range::first_plane(low, best, step);
+            let past = planes_range::past_plane(high, best, step);
             let count = if first < past { past - first } else { 0 };
             match order::room_fault(ds.len(), count as u64) {
                 Checked::Fault(f) => Planing::Refused(f),
                 Checked::Fine => {
-                    axial::write_planes(ds, mesh::origin_along(at, axis), at.scale, first, count);
+                    planes_range::write_planes(
+                        ds,
+                        marking_mesh::origin_along(placement, axis),
+                        placement.scale,
+                        first,
+                        count,
+                    );
                     Planing::Planned(Planes { first, count })
                 }
             }
@@ -86,7 +92,7 @@ fn d_fault(d: f32) -> Checked
     if (-1073741824.0 <= d) & (d <= 1073741824.0) {
         return Checked::Fine;
     }
-    grid::fault(3, 0)
+    grid::fault(grid::BAD_NUMBER, 0)
 }
 
 // Whether a point whose coordinate is p goes to a side. The sum is rounded, its sign is exact.
@@ -151,10 +157,10 @@ fn write_side(out: &mut [f32], ps: &[f32], axis: usize, d: f32, side: Side)
 fn split_fault(ps: &[f32], axis: usize, d: f32) -> Checked
     ensures { λ f. ⌜ f ≡ splitFault (now (ps .entry)) axis d ⌝ }
 {
-    let lengths = points::length_fault(ps.len());
+    let lengths = sizing_points::length_fault(ps.len());
     let of_d = d_fault(d);
-    let numbers = points::numbers_fault(ps, 1);
-    let of_axis = axial::axis_fault(axis);
+    let numbers = sizing_points::numbers_fault(ps, 1);
+    let of_axis = planes_range::axis_fault(axis);
     let from_points = grid::and_then(numbers, of_axis);
     let from_3 = grid::and_then(of_d, from_points);
     grid::and_then(lengths, from_3)

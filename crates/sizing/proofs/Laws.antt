@@ -73,8 +73,8 @@ not-or false b h = absurd (true≢false h)
 
 -- points without a fault are one at least, and their numbers are bounded
 module _ (ps : List Float) (h : pointsFault ps ≡ Fine) where
-  parts : (lengthFault (length ps) ≡ Fine) × (noneFault (length ps) ≡ Fine) × (numbersFault 0 ps ≡ Fine)
-  parts =
+  each-fine : (lengthFault (length ps) ≡ Fine) × (noneFault (length ps) ≡ Fine) × (numbersFault 0 ps ≡ Fine)
+  each-fine =
       let p = both-fine (lengthFault (length ps)) (noneFault (length ps) andThen numbersFault 0 ps) h in
       let q = both-fine (noneFault (length ps)) (numbersFault 0 ps) (p .1) in
       (p .0, q .0, q .1)
@@ -82,16 +82,16 @@ module _ (ps : List Float) (h : pointsFault ps ≡ Fine) where
   pub whole-points : length ps % 3 ≡ 0
   whole-points =
       let n = length ps in
-      eqb-true (n % 3) 0 (not-or (eqb (n % 3) 0) (ltb 65536 (n / 3)) (passed (not (eqb (n % 3) 0) || ltb 65536 (n / 3)) 1 0 Fine (parts .0) .0))
+      eqb-true (n % 3) 0 (not-or (eqb (n % 3) 0) (ltb 65536 (n / 3)) (passed (not (eqb (n % 3) 0) || ltb 65536 (n / 3)) 1 0 Fine (each-fine .0) .0))
 
   pub some-point : 3 ≤ length ps
-  some-point = three (length ps) whole-points (eqb-false (length ps) 0 (passed (eqb (length ps) 0) 2 0 Fine (parts .1) .0))
+  some-point = three (length ps) whole-points (eqb-false (length ps) 0 (passed (eqb (length ps) 0) 2 0 Fine (each-fine .1) .0))
     where
       three : (n : ℕ) → n % 3 ≡ 0 → (n ≡ 0 → ⊥) → 3 ≤ n
       three n a b = omega arith
 
   pub all-bounded : (k : ℕ) → k < length ps → bounded 20 (getD ps k nan) ≡ true
-  all-bounded = first-fine 3 (λ n. 0 + n) (bounded 20) nan ps .0 (parts .2)
+  all-bounded = first-fine 3 (λ n. 0 + n) (bounded 20) nan ps .0 (each-fine .2)
 
 pub resolution-fine : (r : ℕ) → resolutionFault r ≡ Fine → (2 ≤ r) × (r ≤ 254)
 resolution-fine r h = go (ltb r 2) (ltb 254 r) refl refl (passed (ltb r 2 || ltb 254 r) 6 0 Fine h .0)

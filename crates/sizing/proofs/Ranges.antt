@@ -26,7 +26,7 @@ use Rattle.sizing.specs.declared.Spans.{Spans}
 use Rattle.sizing.specs.declared.Sized.{Sized}
 use Rattle.sizing.specs.declared.Sized.the-variants.{Grid, Refused}
 use Rattle.sizing.specs.Points.{bounded, lengthFault, noneFault, numbersFault, pointsFault}
-use Rattle.sizing.specs.Sizing.{Laid, outcome, Smallest, extent, spansOf, placedAt, sizeFault, larger, natural, sizeAxes, gridOf, sizeGrid, bySize, resolutionFault, tops, mainAxis, extentAt, leastExtent, extentFault, countOf, mainOf, dmainOf, resolutionAxes, resolutionScale, resolutionGrid, byResolution, leastSize, greatestSize}
+use Rattle.sizing.specs.Sizing.{Laid, outcome, Smallest, extent, spansOf, placedAt, sizeFault, larger, natural, sizeAxes, gridOf, sizeGrid, bySize, resolutionFault, tops, mainAxis, extentAt, leastExtent, extentFault, asFloat, mainOf, dmainOf, resolutionAxes, resolutionScale, resolutionGrid, byResolution, leastSize, greatestSize}
 use Rattle.sizing.proofs.Laws.{resolution-fine}
 use Rattle.sizing.proofs.Extremes.{x-spanned, y-spanned, z-spanned}
 use Rattle.sizing.proofs.Ratio.{Extent, difference, whole-part, whole-quotient}
@@ -217,9 +217,9 @@ unfolding natural
 two-more-sound r n w R e h = subst (λ (x : Whole). Axis (2 + natural x)) (sym e) (record { some = omega arith; most = omega arith })
 
 axis-sound : (r : ℕ) → 2 ≤ r → r ≤ 254 → (t : Bool) (d m : Float) → Extent d → Extent m → le d m ≡ true → lt m leastExtent ≡ false
-    → Axis (cond t r (2 + natural (truncOf (div binary32 (mul binary32 (countOf r) d) m))))
+    → Axis (cond t r (2 + natural (truncOf (div binary32 (mul binary32 (asFloat r) d) m))))
 axis-sound r L R true d m D M h k = record { some = omega arith; most = omega arith }
-axis-sound r L R false d m D M h k = let w = whole-part r R d m D M h k in two-more-sound r (w .0) (truncOf (div binary32 (mul binary32 (countOf r) d) m)) R (w .1) (w .2)
+axis-sound r L R false d m D M h k = let w = whole-part r R d m D M h k in two-more-sound r (w .0) (truncOf (div binary32 (mul binary32 (asFloat r) d) m)) R (w .1) (w .2)
 
 pub resolution-sound : (ps : List Float) (r : ℕ) → pointsFault ps ≡ Fine → resolutionFault r ≡ Fine → extentFault (dmainOf (spansOf ps)) ≡ Fine
     → Sound (resolutionAxes (spansOf ps) r)
@@ -236,9 +236,9 @@ resolution-sound ps r f g h =
     }
 
 pub resolution-counts : (ps : List Float) (r : ℕ) → pointsFault ps ≡ Fine → resolutionFault r ≡ Fine → extentFault (dmainOf (spansOf ps)) ≡ Fine
-    → IsCount (truncOf (div binary32 (mul binary32 (countOf r) (extent (spansOf ps .x))) (dmainOf (spansOf ps))))
-    × IsCount (truncOf (div binary32 (mul binary32 (countOf r) (extent (spansOf ps .y))) (dmainOf (spansOf ps))))
-    × IsCount (truncOf (div binary32 (mul binary32 (countOf r) (extent (spansOf ps .z))) (dmainOf (spansOf ps))))
+    → IsCount (truncOf (div binary32 (mul binary32 (asFloat r) (extent (spansOf ps .x))) (dmainOf (spansOf ps))))
+    × IsCount (truncOf (div binary32 (mul binary32 (asFloat r) (extent (spansOf ps .y))) (dmainOf (spansOf ps))))
+    × IsCount (truncOf (div binary32 (mul binary32 (asFloat r) (extent (spansOf ps .z))) (dmainOf (spansOf ps))))
 resolution-counts ps r f g h =
     let s = spansOf ps in
     let d = extents ps f in

@@ -16,7 +16,9 @@ use Rattle.grid.specs.declared.Checked.{Checked}
 use Rattle.grid.specs.declared.Checked.the-variants.{Fine}
 use Rattle.grid.specs.Answers.{Outcome, answers, refuses, faultIf, _andThen_, unless}
 use Rattle.grid.specs.Checks.{axesFault}
+use Rattle.grid.specs.Refusals.{BAD-SIZE, BAD-RESOLUTION, NO-EXTENT}
 use Rattle.sizing.specs.declared.Point.{Point}
+pub use Rattle.grid.specs.declared.Laid.{Laid}
 use Rattle.sizing.specs.declared.Span.{Span}
 use Rattle.sizing.specs.declared.Spans.{Spans}
 use Rattle.sizing.specs.declared.Sized.{Sized}
@@ -24,11 +26,6 @@ use Rattle.sizing.specs.declared.Sized.the-variants.{Grid, Refused}
 use Rattle.sizing.specs.Points.{pointsFault}
 
 -- ---- the answer
-
--- where a grid lies
-pub record Laid : Type 0 where
-  pub axes : Axes
-  pub placement : Placement
 
 -- 01's number and values for each case of `Sized`
 abbrev pub outcome : Sized → Outcome Laid
@@ -108,7 +105,7 @@ greatestSize = fin false 1 (pos 20)
 
 -- "5: cell size not within 2^-10 to 2^20, ends included"
 abbrev pub sizeFault : Float → Checked
-sizeFault size = faultIf (not (le leastSize size && le size greatestSize)) 5 0 Fine
+sizeFault size = faultIf (not (le leastSize size && le size greatestSize)) BAD-SIZE 0 Fine
 
 abbrev pub larger : ℕ → ℕ → ℕ
 larger a b = cond (leb a b) b a
@@ -121,7 +118,7 @@ natural TooLarge = 257
 natural NotANumber = 257
 
 -- the same as a promise: the count, which leaves room for two more
-pub record Counted (w : Whole) (r : ℕ) : Type 0 where
+pub record CountsAs (w : Whole) (r : ℕ) : Type 0 where
   pub is : r ≡ natural w
   pub room : r ≤ 2 ^ 63
 
@@ -146,7 +143,7 @@ bySize ps size = unless (pointsFault ps andThen sizeFault size) (sizeGrid (spans
 
 -- "6: resolution under 2 or over 254"
 abbrev pub resolutionFault : ℕ → Checked
-resolutionFault r = faultIf (ltb r 2 || ltb 254 r) 6 0 Fine
+resolutionFault r = faultIf (ltb r 2 || ltb 254 r) BAD-RESOLUTION 0 Fine
 
 abbrev pub tops : Float → Float → Float → Bool
 tops a b c = le b a && le c a
@@ -164,15 +161,15 @@ abbrev pub leastExtent : Float
 leastExtent = fin false 1 (negsuc 9)
 
 abbrev pub extentFault : Float → Checked
-extentFault dmain = faultIf (lt dmain leastExtent) 7 0 Fine
+extentFault dmain = faultIf (lt dmain leastExtent) NO-EXTENT 0 Fine
 
 -- a count as an f32
-abbrev pub countOf : ℕ → Float
-countOf r = ofInt binary32 (pos r)
+abbrev pub asFloat : ℕ → Float
+asFloat r = ofInt binary32 (pos r)
 
 -- "Main axis R; each other axis 2 + trunc((R * d) / dmain)."
 abbrev pub axisByResolution : ℕ → ℕ → ℕ → Float → Float → ℕ
-axisByResolution r m a d dmain = cond (eqb m a) r (2 + natural (truncOf (div binary32 (mul binary32 (countOf r) d) dmain)))
+axisByResolution r m a d dmain = cond (eqb m a) r (2 + natural (truncOf (div binary32 (mul binary32 (asFloat r) d) dmain)))
 
 -- the main axis of some spans, and its extent
 abbrev pub mainOf : Spans → ℕ
@@ -191,7 +188,7 @@ resolutionAxes s r =
 
 -- "scale = dmain / (R - 1)"
 abbrev pub resolutionScale : Spans → ℕ → Float
-resolutionScale s r = div binary32 (dmainOf s) (countOf (r - 1))
+resolutionScale s r = div binary32 (dmainOf s) (asFloat (r - 1))
 
 abbrev pub resolutionGrid : Spans → ℕ → Outcome Laid
 resolutionGrid s r = unless (extentFault (dmainOf s)) (gridOf (resolutionAxes s r) (placedAt s (resolutionScale s r)))

@@ -2,7 +2,7 @@
 ghost use mathlib.Core.Path.{_≡_};
 ghost use Prim.Native.Nat.{_+_, _*_, _≤_, _<_};
 ghost use lib.ListN.{length};
-ghost use Rattle.sizing.specs.Sizing.{outcome, lower, upper, pointAt, spansAt, spanWith, spansWith, spansOf, placedAt, sizeFault, Counted, axisBySize, gridOf, sizeGrid, bySize, resolutionFault, tops, mainAxis, extentAt, countOf, axisByResolution, resolutionGrid, byResolution};
+ghost use Rattle.sizing.specs.Sizing.{outcome, lower, upper, pointAt, spansAt, spanWith, spansWith, spansOf, placedAt, sizeFault, CountsAs, axisBySize, gridOf, sizeGrid, bySize, resolutionFault, tops, mainAxis, extentAt, asFloat, axisByResolution, resolutionGrid, byResolution};
 use grid::Axes;
 use grid::Checked;
 use grid::Placement;
@@ -115,8 +115,8 @@ fn placed(s: Spans, scale: f32) -> Placement
 }
 
 // A rounded quotient as a count of cells; one that is too large, or none, is more than any axis has.
-fn counted(w: Whole) -> usize
-    ensures { λ r. ⌜ Counted w r ⌝ }
+fn cells_of(w: Whole) -> usize
+    ensures { λ r. ⌜ CountsAs w r ⌝ }
 {
     match w {
         Whole::Of(n) => {
@@ -149,13 +149,13 @@ fn size_fault(size: f32) -> Checked
     if (0.0009765625 <= size) & (size <= 1048576.0) {
         return Checked::Fine;
     }
-    grid::fault(5, 0)
+    grid::fault(grid::BAD_SIZE, 0)
 }
 
 fn axis_by_size(s: Span, size: f32) -> usize
     ensures { λ r. ⌜ r ≡ axisBySize s size ⌝ }
 {
-    let n = counted(numbers::ceil((s.hi - s.lo) / size));
+    let n = cells_of(numbers::ceil((s.hi - s.lo) / size));
     if n <= 2 {
         return 3;
     }
@@ -175,7 +175,7 @@ fn size_grid(s: Spans, size: f32) -> Sized
 pub fn by_size(points: &[f32], size: f32) -> Sized
     ensures { λ r. ⌜ outcome r ≡ bySize (now (points .entry)) size ⌝ }
 {
-    match grid::and_then(points::points_fault(points), size_fault(size)) {
+    match grid::and_then(sizing_points::points_fault(points), size_fault(size)) {
         Checked::Fault(f) => Sized::Refused(f),
         Checked::Fine => size_grid(spans_of(points), size),
     }
@@ -188,7 +188,7 @@ fn resolution_fault(r: u32) -> Checked
     ensures { λ e. ⌜ e ≡ resolutionFault r ⌝ }
 {
     if (r < 2) | (254 < r) {
-        return grid::fault(6, 0);
+        return grid::fault(grid::BAD_RESOLUTION, 0);
     }
     Checked::Fine
 }
@@ -228,7 +228,7 @@ fn extent_at(m: u8, dx: f32, dy: f32, dz: f32) -> f32
 // A resolution, or one less, as a float.
 fn as_float(r: u32) -> f32
     requires { ⌜ r ≤ 254 ⌝ }
-    ensures { λ f. ⌜ f ≡ countOf r ⌝ }
+    ensures { λ f. ⌜ f ≡ asFloat r ⌝ }
 {
     (r as u16) as f32
 }
@@ -241,7 +241,7 @@ fn axis_by_resolution(r: u32, m: u8, a: u8, d: f32, dmain: f32) -> usize
     if m == a {
         return r as usize;
     }
-    2 + counted(numbers::trunc(as_float(r) * d / dmain))
+    2 + cells_of(numbers::trunc(as_float(r) * d / dmain))
 }
 
 fn resolution_grid(s: Spans, r: u32) -> Sized
@@ -255,7 +255,7 @@ fn resolution_grid(s: Spans, r: u32) -> Sized
     let dmain = extent_at(m, dx, dy, dz);
     if dmain < 0.0009765625 {
         return Sized::Refused(Refusal {
-            number: 7,
+            number: grid::NO_EXTENT,
             place: 0,
         });
     }
@@ -269,7 +269,7 @@ fn resolution_grid(s: Spans, r: u32) -> Sized
 pub fn by_resolution(points: &[f32], r: u32) -> Sized
     ensures { λ e. ⌜ outcome e ≡ byResolution (now (points .entry)) r ⌝ }
 {
-    match grid::and_then(points::points_fault(points), resolution_fault(r)) {
+    match grid::and_then(sizing_points::points_fault(points), resolution_fault(r)) {
         Checked::Fault(f) => Sized::Refused(f),
         Checked::Fine => resolution_grid(spans_of(points), r),
     }

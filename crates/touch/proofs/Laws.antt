@@ -1,4 +1,4 @@
--- Laws of specs/Slabs.antt: the range of each number, and that the cells that thirteen slabs leave are those that the triangle touches. Assumes nothing.
+-- Laws of specs/Bands.antt: the range of each number, and that the cells that thirteen bands leave are those that the triangle touches. Assumes nothing.
 use mathlib.Core.Path.{_≡_, refl, sym, ap, _∙_}
 use mathlib.Core.List.{List, [], _∷_, _++_}
 use mathlib.Core.Bool.{Bool, true, false, not, cond, _&&_, _||_, and-assoc}
@@ -13,16 +13,16 @@ use mir.Facts.{toZ-ofZ}
 use mir.Val.{SFits, toZ, ofZ}
 use Rattle.grid.specs.declared.Cell.{Cell}
 use Rattle.grid.proofs.First.{both-true}
-use Rattle.numbers.specs.Rounding.{parts, half}
+use Rattle.numbers.specs.Rounding.{units, half}
 use Rattle.ints.specs.Bound.{In, Val, Each, got, in-add, in-sub, in-mul, in-abs, in-lit, in-up, in-eq, in3, cons3}
 use Rattle.ints.specs.Casts.{of-unsigned}
 use Rattle.ints.specs.Order.{ap2, lesser, greater, le-not, lt-lesser, lt-greater, lt-less, lt-more}
 use Rattle.ints.specs.Ring.{ap3, mul-assoc}
-use Rattle.touch.specs.declared.Slab.{Slab}
-use Rattle.touch.specs.declared.Slabs.{Slabs}
+use Rattle.touch.specs.declared.Band.{Band}
+use Rattle.touch.specs.declared.Bands.{Bands}
 use Rattle.touch.specs.declared.Three.{Three}
 use Rattle.touch.specs.Touch.{along, vertex, centre, dotZ, reach, edge, cross, axisX, axisY, axisZ, axes, edgeOf, normal, withAxes, allAbove, allBelow, apart, someApart, touching}
-use Rattle.touch.specs.Slabs.{slabOf, threeOf, productsOf, slabsOf, kept, keptThree, keptAll, VertexFits, TriangleFits, EdgeFits, DirectionFits, SlabFits, ThreeFit, Axial, Flat, SlabsFit, CoordinatesFit, CellFits}
+use Rattle.touch.specs.Bands.{bandOf, threeOf, productsOf, bandsOf, kept, keptThree, keptAll, VertexFits, TriangleFits, EdgeFits, DirectionFits, BandFits, ThreeFit, Axial, Crosswise, BandsFit, CoordinatesFit, CellFits}
 
 -- ---- ranges
 
@@ -79,9 +79,9 @@ axis-dir x y z p q r = axis-in x y z p q r tt
 pub products-dir : (e : List ℤ) → EdgeFits e → DirectionFits (cross e axisX) × DirectionFits (cross e axisY) × DirectionFits (cross e axisZ)
 products-dir e h = (cross-in h (axis-in 1 0 0 tt tt tt tt), cross-in h (axis-in 0 1 0 tt tt tt tt), cross-in h (axis-in 0 0 1 tt tt tt tt))
 
-pub slab-fits : (d : List ℤ) (t : List (List ℤ)) → DirectionFits d → TriangleFits t → SlabFits (slabOf d t)
-unfolding slabOf
-slab-fits d t h k =
+pub band-fits : (d : List ℤ) (t : List (List ℤ)) → DirectionFits d → TriangleFits t → BandFits (bandOf d t)
+unfolding bandOf
+band-fits d t h k =
     let a = dot-in h (k .at 0) in
     let b = dot-in h (k .at 1) in
     let c = dot-in h (k .at 2) in
@@ -93,8 +93,8 @@ slab-fits d t h k =
       high-in = in-up _ tt (in-add (greater-in (greater-in a b) c) (reach-in h));
     }
   where
-    scaled : {z : ℤ} → In (2 ^ 39) z → In (2 ^ 49) (pos parts *ℤ z)
-    scaled h = in-up (2 ^ 49) tt (in-mul (in-lit parts (pos parts) tt) h)
+    scaled : {z : ℤ} → In (2 ^ 39) z → In (2 ^ 49) (pos units *ℤ z)
+    scaled h = in-up (2 ^ 49) tt (in-mul (in-lit units (pos units) tt) h)
 
 -- a cell's coordinates as signed numbers
 pub signed : {n : ℕ} → n < 256 → toZ w64 n ≡ pos n
@@ -153,21 +153,21 @@ axes-are s h i j k = (
   sym (+ℤ-idl (s .z .z *ℤ k)) ∙ ap (λ (w : ℤ). w +ℤ s .z .z *ℤ k) (sym (nothing (s .z .x) i (h .z-x))) ∙ no-y (s .z .x) (s .z .y) (s .z .z) i j k (h .z-y),
 )
 
-pub products-are : (s : Three) → Flat s → (i j k : ℤ)
+pub products-are : (s : Three) → Crosswise s → (i j k : ℤ)
     → (s .x .y *ℤ j +ℤ s .x .z *ℤ k ≡ s .x .x *ℤ i +ℤ s .x .y *ℤ j +ℤ s .x .z *ℤ k) × (s .y .x *ℤ i +ℤ s .y .z *ℤ k ≡ s .y .x *ℤ i +ℤ s .y .y *ℤ j +ℤ s .y .z *ℤ k) × (s .z .x *ℤ i +ℤ s .z .y *ℤ j ≡ s .z .x *ℤ i +ℤ s .z .y *ℤ j +ℤ s .z .z *ℤ k)
 products-are s h i j k =
     (no-x (s .x .x) (s .x .y) (s .x .z) i j k (h .x-x), no-y (s .y .x) (s .y .y) (s .y .z) i j k (h .y-y), no-z (s .z .x) (s .z .y) (s .z .z) i j k (h .z-z))
 
--- ---- the cells that a slab leaves are those that its direction does not separate
+-- ---- the cells that a band leaves are those that its direction does not separate
 
 -- a direction times the side, at a cell, is the projection of the cell's centre
 at-centre : (d : List ℤ) (c : Cell)
-    → pos parts *ℤ along d 0 *ℤ pos (c .i) +ℤ pos parts *ℤ along d 1 *ℤ pos (c .j) +ℤ pos parts *ℤ along d 2 *ℤ pos (c .k) ≡ dotZ d (centre c)
+    → pos units *ℤ along d 0 *ℤ pos (c .i) +ℤ pos units *ℤ along d 1 *ℤ pos (c .j) +ℤ pos units *ℤ along d 2 *ℤ pos (c .k) ≡ dotZ d (centre c)
 unfolding dotZ
 at-centre d c = ap3 (moved (along d 0) (c .i)) (moved (along d 1) (c .j)) (moved (along d 2) (c .k))
   where
-    moved : (z : ℤ) (n : ℕ) → pos parts *ℤ z *ℤ pos n ≡ z *ℤ (pos parts *ℤ pos n)
-    moved z n = ap (λ (x : ℤ). x *ℤ pos n) (*ℤ-comm (pos parts) z) ∙ mul-assoc z (pos parts) (pos n)
+    moved : (z : ℤ) (n : ℕ) → pos units *ℤ z *ℤ pos n ≡ z *ℤ (pos units *ℤ pos n)
+    moved z n = ap (λ (x : ℤ). x *ℤ pos n) (*ℤ-comm (pos units) z) ∙ mul-assoc z (pos units) (pos n)
 
 above-test : (z a b c : ℤ) → allAbove z a b c ≡ ltZ z (lesser (lesser a b) c)
 above-test z a b c = sym (lt-lesser z (lesser a b) c ∙ ap (λ (x : Bool). x && ltZ z c) (lt-lesser z a b))
@@ -179,8 +179,8 @@ neither : (a b : Bool) → not (a || b) ≡ (not a && not b)
 neither true b = refl
 neither false b = refl
 
-pub kept-is : (d : List ℤ) (t : List (List ℤ)) (c : Cell) → kept (slabOf d t) (pos (c .i)) (pos (c .j)) (pos (c .k)) ≡ not (apart d t c)
-unfolding slabOf apart
+pub kept-is : (d : List ℤ) (t : List (List ℤ)) (c : Cell) → kept (bandOf d t) (pos (c .i)) (pos (c .j)) (pos (c .k)) ≡ not (apart d t c)
+unfolding bandOf apart
 kept-is d t c =
     let m = dotZ d (centre c) in
     let a = dotZ d (vertex t 0) in
@@ -215,7 +215,7 @@ three-is x y z t c = rw (kept-is x t c, kept-is y t c, kept-is z t c) (flat (apa
     flat false false true = refl
     flat false false false = refl
 
-one-is : (d : List ℤ) (t : List (List ℤ)) (c : Cell) → kept (slabOf d t) (pos (c .i)) (pos (c .j)) (pos (c .k)) ≡ not (someApart (d ∷ []) t c)
+one-is : (d : List ℤ) (t : List (List ℤ)) (c : Cell) → kept (bandOf d t) (pos (c .i)) (pos (c .j)) (pos (c .k)) ≡ not (someApart (d ∷ []) t c)
 unfolding someApart
 one-is d t c = kept-is d t c ∙ ap not (sym (or-false (apart d t c)))
   where
@@ -229,9 +229,9 @@ regroup true true false s u = refl
 regroup true false r s u = refl
 regroup false q r s u = refl
 
-pub slabs-touch : (t : List (List ℤ)) (c : Cell) → keptAll (slabsOf t) c ≡ touching t c
+pub bands-touch : (t : List (List ℤ)) (c : Cell) → keptAll (bandsOf t) c ≡ touching t c
 unfolding keptAll touching
-slabs-touch t c =
+bands-touch t c =
     let n = normal t ∷ [] in
     let a = withAxes (edgeOf t 0 1) in
     let b = withAxes (edgeOf t 1 2) in
@@ -249,12 +249,12 @@ slabs-touch t c =
     ∙ ap (λ (x : Bool). by axes && x)
     (none-of n (a ++ (b ++ e)) t c ∙ ap (λ (x : Bool). by n && x) (none-of a (b ++ e) t c ∙ ap (λ (x : Bool). by a && x) (none-of b e t c))))
 
-pub slabs-fit : (t : List (List ℤ)) → TriangleFits t → SlabsFit (slabsOf t)
-unfolding slabOf
-slabs-fit t h =
+pub bands-fit : (t : List (List ℤ)) → TriangleFits t → BandsFit (bandsOf t)
+unfolding bandOf
+bands-fit t h =
     record {
-      axes-ok = record { x-ok = slab-fits axisX t (axis-dir 1 0 0 tt tt tt) h; y-ok = slab-fits axisY t (axis-dir 0 1 0 tt tt tt) h; z-ok = slab-fits axisZ t (axis-dir 0 0 1 tt tt tt) h };
-      normal-ok = slab-fits (normal t) t (cross-in (side 0 1) (side 1 2)) h;
+      axes-ok = record { x-ok = band-fits axisX t (axis-dir 1 0 0 tt tt tt) h; y-ok = band-fits axisY t (axis-dir 0 1 0 tt tt tt) h; z-ok = band-fits axisZ t (axis-dir 0 0 1 tt tt tt) h };
+      normal-ok = band-fits (normal t) t (cross-in (side 0 1) (side 1 2)) h;
       edge01-ok = of-edge (edgeOf t 0 1) (side 0 1);
       edge12-ok = of-edge (edgeOf t 1 2) (side 1 2);
       edge20-ok = of-edge (edgeOf t 2 0) (side 2 0);
@@ -267,10 +267,10 @@ slabs-fit t h =
     side : (a b : ℕ) → EdgeFits (edgeOf t a b)
     side a b = edge-in (h .at a) (h .at b)
 
-    flat : (e : List ℤ) → Flat (productsOf e t)
-    flat e = record { x-x = ap (λ (d : List ℤ). pos parts *ℤ along d 0) (cross-x e); y-y = ap (λ (d : List ℤ). pos parts *ℤ along d 1) (cross-y e); z-z = ap (λ (d : List ℤ). pos parts *ℤ along d 2) (cross-z e) }
+    flat : (e : List ℤ) → Crosswise (productsOf e t)
+    flat e = record { x-x = ap (λ (d : List ℤ). pos units *ℤ along d 0) (cross-x e); y-y = ap (λ (d : List ℤ). pos units *ℤ along d 1) (cross-y e); z-z = ap (λ (d : List ℤ). pos units *ℤ along d 2) (cross-z e) }
 
     of-edge : (e : List ℤ) → EdgeFits e → ThreeFit (productsOf e t)
     of-edge e f =
         let d = products-dir e f in
-        record { x-ok = slab-fits (cross e axisX) t (d .0) h; y-ok = slab-fits (cross e axisY) t (d .1) h; z-ok = slab-fits (cross e axisZ) t (d .2) h }
+        record { x-ok = band-fits (cross e axisX) t (d .0) h; y-ok = band-fits (cross e axisY) t (d .1) h; z-ok = band-fits (cross e axisZ) t (d .2) h }

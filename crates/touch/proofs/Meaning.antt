@@ -14,10 +14,10 @@ use mir.Facts.{T-not, not-T, and-yes, yes-and, or-yes, or-no}
 use borrow.Author.Tests.{le-ltb}
 use Rattle.ints.specs.Bound.{In, in-add, in-mul, in-of, abs-neg, cons3}
 use Rattle.ints.specs.Ring.{dist-l, add3, mul3, neg3, ap3, mul-neg}
-use Rattle.ints.specs.Parts as Parts
-use Rattle.ints.specs.Parts.{up, down, neg-pos, add-sub, lt-sub, before-face, past-face}
+use Rattle.ints.specs.Differences as Differences
+use Rattle.ints.specs.Differences.{up, down, neg-pos, add-sub, lt-sub, before-face, past-face}
 use Rattle.grid.specs.declared.Cell.{Cell}
-use Rattle.numbers.specs.Rounding.{parts, half, floorZ, cellOf}
+use Rattle.numbers.specs.Rounding.{units, half, floorZ, cellOf}
 use Rattle.touch.specs.Touch.{along, vertex, centre, InCube, dotZ, Separates, above, below, edge, directions, absZ, reach, apart, someApart, touching}
 
 -- ---- tests: one of two, neither of two, all of three
@@ -50,7 +50,7 @@ record Less (z : ℤ) (a b : ℕ) : Type 0 where
 
 -- each number is such a difference
 less : (z : ℤ) → Less z (up z) (down z)
-less z = record { is = Parts.parts z }
+less z = record { is = Differences.up-down z }
 
 -- and so is a sum
 plus : {x y : ℤ} {a b c d : ℕ} → Less x a b → Less y c d → Less (x +ℤ y) (a + c) (b + d)
@@ -240,18 +240,18 @@ module _ (t : List (List ℤ)) (c : Cell) where
 -- ---- the cell of a vertex
 
 -- a coordinate is half a side at most from the centre of its cell
-pub cell-near : (q : ℤ) (i : ℕ) → cellOf q ≡ pos i → natAbs (q -ℤ pos (parts * i)) ≤ half
+pub cell-near : (q : ℤ) (i : ℕ) → cellOf q ≡ pos i → natAbs (q -ℤ pos (units * i)) ≤ half
 cell-near q i e = go (q +ℤ pos half) refl e .bound
   where
-    go : (w : ℤ) → q +ℤ pos half ≡ w → floorZ w parts ≡ pos i → In half (q -ℤ pos (parts * i))
-    go (negsuc a) f e = absurd (pos-ne-negsuc i (a / parts) (sym e))
+    go : (w : ℤ) → q +ℤ pos half ≡ w → floorZ w units ≡ pos i → In half (q -ℤ pos (units * i))
+    go (negsuc a) f e = absurd (pos-ne-negsuc i (a / units) (sym e))
     go (pos a) f e =
-        let k : a / parts ≡ i = cc in
-        let m = div-add-mod a parts in
-        let l = mod-lt a {m = parts} (lit< tt) in
-        in-of half (q -ℤ pos (parts * i))
-        (before-face q a half (parts * i) f ∙ le-ltb a (parts * i) (omega arith))
-        (past-face q a half (parts * i) f ∙ le-ltb (parts * i + half + half) a (omega arith))
+        let k : a / units ≡ i = cc in
+        let m = div-add-mod a units in
+        let l = mod-lt a {m = units} (lit< tt) in
+        in-of half (q -ℤ pos (units * i))
+        (before-face q a half (units * i) f ∙ le-ltb a (units * i) (omega arith))
+        (past-face q a half (units * i) f ∙ le-ltb (units * i + half + half) a (omega arith))
 
 -- a triangle touches the cell of each of its vertices
 pub own-cell : (t : List (List ℤ)) (c : Cell) (n : ℕ) → n < 3 → cellOf (along (vertex t n) 0) ≡ pos (c .i) → cellOf (along (vertex t n) 1) ≡ pos (c .j)

@@ -1,2 +1,2 @@
 pub mod Touch
-pub mod Slabs
+pub mod Bands

@@ -1,4 +1,4 @@
--- 01, Marking: whether a triangle touches a cell. All numbers are whole, with a sign, in parts of a cell's side. The meaning of separation (`Separates`) and its computation (`apart`); proofs/Meaning.antt joins them. Definitions only.
+-- 01, Marking: whether a triangle touches a cell. All numbers are whole, with a sign, in units of a cell's side. The meaning of separation (`Separates`) and its computation (`apart`); proofs/Meaning.antt joins them. Definitions only.
 use mathlib.Core.Bool.{Bool, false, not, _&&_, _||_}
 use mathlib.Core.List.{List, [], _∷_, _++_}
 use Prim.Native.Nat.{ℕ, _*_, _≤_, _<_}
@@ -7,7 +7,7 @@ use lib.IntN.{ℤ, pos, natAbs, _+ℤ_, _-ℤ_, _*ℤ_}
 use lib.Signed.{ltZ}
 use lib.ListN.{getD}
 use Rattle.grid.specs.declared.Cell.{Cell}
-use Rattle.numbers.specs.Rounding.{parts, half}
+use Rattle.numbers.specs.Rounding.{units, half}
 
 -- "A triangle is three vertices of three coordinates each." Coordinate n of a vertex, a point or a direction; vertex n of a triangle
 abbrev pub along : List ℤ → ℕ → ℤ
@@ -18,7 +18,7 @@ vertex t n = getD t n []
 
 -- "Cell (i, j, k) is the closed cube of 256 units a side about (256 i, 256 j, 256 k)": its centre, and the points of it that have whole coordinates
 abbrev pub centre : Cell → List ℤ
-centre c = pos (parts * c .i) ∷ pos (parts * c .j) ∷ pos (parts * c .k) ∷ []
+centre c = pos (units * c .i) ∷ pos (units * c .j) ∷ pos (units * c .k) ∷ []
 
 pub record InCube (c : Cell) (p : List ℤ) : Type 0 where
   pub on-i : natAbs (along p 0 -ℤ along (centre c) 0) ≤ half

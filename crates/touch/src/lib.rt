@@ -1,15 +1,15 @@
 // Whether a triangle touches a cell: none of thirteen directions separates them strictly. What depends on
-// the triangle alone is computed once: each direction leaves of all cells a slab of those that it does not
-// separate from the triangle. Here a cell is held to the slabs; the crate `slabs` makes them.
+// the triangle alone is computed once: each direction leaves of all cells a band of those that it does not
+// separate from the triangle. Here a cell is held to the bands; the crate `touch_bands` makes them.
 ghost use mathlib.Core.Path.{_≡_};
 ghost use Prim.Native.Nat.{_<_};
 ghost use Rattle.ints.specs.Order.{lesser, greater};
-ghost use Rattle.touch.specs.Slabs.{kept, keptThree, keptAll, SlabFits, ThreeFit, Axial, Flat, SlabsFit, CellFits, CoordinatesFit};
+ghost use Rattle.touch.specs.Bands.{kept, keptThree, keptAll, BandFits, ThreeFit, Axial, Crosswise, BandsFit, CellFits, CoordinatesFit};
 use grid::Cell;
 
 // The cells that a direction does not separate: side * (direction . cell) is from low to high. x, y and z are
 // the direction's, times the side.
-pub struct Slab {
+pub struct Band {
     pub x: i64,
     pub y: i64,
     pub z: i64,
@@ -19,15 +19,15 @@ pub struct Slab {
 
 // Three directions: the axes, or the products of an edge with them.
 pub struct Three {
-    pub x: Slab,
-    pub y: Slab,
-    pub z: Slab,
+    pub x: Band,
+    pub y: Band,
+    pub z: Band,
 }
 
 // The thirteen of a triangle.
-pub struct Slabs {
+pub struct Bands {
     pub axes: Three,
-    pub normal: Slab,
+    pub normal: Band,
     pub edge01: Three,
     pub edge12: Three,
     pub edge20: Three,
@@ -45,8 +45,8 @@ pub fn greatest(a: i64, b: i64) -> i64
     if a < b { b } else { a }
 }
 
-fn keeps(s: Slab, i: i64, j: i64, k: i64) -> bool
-    requires { ⌜ SlabFits s ⌝ }
+fn keeps(s: Band, i: i64, j: i64, k: i64) -> bool
+    requires { ⌜ BandFits s ⌝ }
     requires { ⌜ CoordinatesFit i j k ⌝ }
     ensures { λ b. ⌜ b ≡ kept s i j k ⌝ }
 {
@@ -54,7 +54,7 @@ fn keeps(s: Slab, i: i64, j: i64, k: i64) -> bool
     (s.low <= p) & (p <= s.high)
 }
 
-// Of the axes: each slab has one coordinate that is not 0. What does not depend on i is left for a row's
+// Of the axes: each band has one coordinate that is not 0. What does not depend on i is left for a row's
 // loop to compute once.
 fn keeps_axes(s: Three, i: i64, j: i64, k: i64) -> bool
     requires { ⌜ ThreeFit s ⌝ }
@@ -71,10 +71,10 @@ fn keeps_axes(s: Three, i: i64, j: i64, k: i64) -> bool
     kx & ky & kz
 }
 
-// Of an edge's products with the axes: each slab has a coordinate that is 0.
+// Of an edge's products with the axes: each band has a coordinate that is 0.
 fn keeps_products(s: Three, i: i64, j: i64, k: i64) -> bool
     requires { ⌜ ThreeFit s ⌝ }
-    requires { ⌜ Flat s ⌝ }
+    requires { ⌜ Crosswise s ⌝ }
     requires { ⌜ CoordinatesFit i j k ⌝ }
     ensures { λ b. ⌜ b ≡ keptThree s i j k ⌝ }
 {
@@ -88,8 +88,8 @@ fn keeps_products(s: Three, i: i64, j: i64, k: i64) -> bool
 }
 
 // Whether none of the thirteen separates the cell.
-pub fn within(s: Slabs, c: Cell) -> bool
-    requires { ⌜ SlabsFit s ⌝ }
+pub fn keeps_all(s: Bands, c: Cell) -> bool
+    requires { ⌜ BandsFit s ⌝ }
     requires { ⌜ CellFits c ⌝ }
     ensures { λ b. ⌜ b ≡ keptAll s c ⌝ }
 {

@@ -61,7 +61,7 @@ pub fn range(tally: &mut Tally, numbers: &[u32], start: u32, end: u32) {
     let part = list::part(numbers, start, end);
     let check = vesselmap::check_range(lent.read(), start, end).map_err(fault);
     let to_be = if part.is_some() { Ok(()) } else { Err((15, 0)) };
-    let handed = vesselmap::part(lent.read(), start, end) == part.unwrap_or(&[]);
+    let handed = vesselmap::list_slice(lent.read(), start, end) == part.unwrap_or(&[]);
     let same = check == to_be && handed && lent.untouched();
     let input = || format!("range {start} to {end} of {}: {check:?}", shown(numbers));
     tally.judge(same, to_be.err(), part.map_or(1, |p| p.len()), numbers.len(), input);
@@ -76,7 +76,7 @@ pub fn our_pairs(c: &marks::Case, labels: &[u8], room: usize) -> Vec<(u32, u32)>
     let Ok(listed) = listed else { return vec![] };
     let of = |r: vesselmap::Record| {
         let n = axes.number(r.cell).unwrap_or(usize::MAX) as u32;
-        vesselmap::part(&list, r.start, r.end).iter().map(move |&t| (n, t)).collect::<Vec<_>>()
+        vesselmap::list_slice(&list, r.start, r.end).iter().map(move |&t| (n, t)).collect::<Vec<_>>()
     };
     Records::new(&records).iter().take(listed.cells).flat_map(of).collect()
 }

@@ -51,7 +51,7 @@
 //! )?;
 //! let first = Records::new(&records).get(0).unwrap();
 //! assert_eq!((listed.cells, first.cell, first.surface), (125, Cell { i: 1, j: 1, k: 1 }, true));
-//! assert_eq!(vesselmap::part(&list, first.start, first.end).len(), 6);
+//! assert_eq!(vesselmap::list_slice(&list, first.start, first.end).len(), 6);
 //!
 //! // What cannot be done is refused with a number and a place, and nothing lent is written.
 //! let refusal = vesselmap::close(&mut labels, grid.axes, hatch).unwrap_err();
@@ -162,9 +162,9 @@ pub fn list_pairs(
     n.verdict.give(Listed { cells: n.cells, pairs: n.pairs })
 }
 
-/// The part of a list from `start` up to, not including, `end`; an empty part where [`check_range`] refuses the range.
-pub fn part(list: &[u32], start: u32, end: u32) -> &[u32] {
-    let p = sys::part(list, start, end);
+/// The slice of a list from `start` up to, not including, `end`; an empty one where [`check_range`] refuses the range.
+pub fn list_slice(list: &[u32], start: u32, end: u32) -> &[u32] {
+    let p = sys::list_slice(list, start, end);
     &list[p.start..p.start + p.length]
 }
 

@@ -3,7 +3,7 @@
 //! The same holds of every call below. A slice goes as its own pointer and length, so all of it may be read for as
 //! long as the call lasts, and written, by nobody else, if it is lent as `&mut`; any length will do, none too. The
 //! library is proved to stay within its slices for all arguments that the types admit, and keeps no pointer. The
-//! structs have C's layout and the fields of those in crates/flat, of plain numbers, for which every pattern is a value.
+//! structs have C's layout and the fields of those in crates/capi_flat, of plain numbers, for which every pattern is a value.
 use crate::{Axes, Cell, Placement, Refusal};
 
 /// The number 0, or a refusal's number and place.
@@ -22,7 +22,7 @@ impl Verdict {
     }
 }
 
-// Each answer begins with the fields of a verdict, as its struct in crates/flat does.
+// Each answer begins with the fields of a verdict, as its struct in crates/capi_flat does.
 
 #[repr(C)]
 pub struct Sized {
@@ -77,7 +77,7 @@ pub struct Summarized {
 }
 
 #[repr(C)]
-pub struct Part {
+pub struct Slice {
     pub start: usize,
     pub length: usize,
 }
@@ -125,7 +125,7 @@ mod c {
             list_len: usize,
         ) -> Listed;
         pub fn vm_check_range(list: *const u32, list_len: usize, start: u32, end: u32) -> Verdict;
-        pub fn vm_part(list: *const u32, list_len: usize, start: u32, end: u32) -> Part;
+        pub fn vm_list_slice(list: *const u32, list_len: usize, start: u32, end: u32) -> Slice;
         pub fn vm_classify(
             entries: *const u32,
             entries_len: usize,
@@ -260,9 +260,9 @@ pub fn check_range(list: &[u32], start: u32, end: u32) -> Verdict {
     unsafe { c::vm_check_range(list.as_ptr(), list.len(), start, end) }
 }
 
-pub fn part(list: &[u32], start: u32, end: u32) -> Part {
+pub fn list_slice(list: &[u32], start: u32, end: u32) -> Slice {
     // SAFETY: one slice, only read; numbers by value.
-    unsafe { c::vm_part(list.as_ptr(), list.len(), start, end) }
+    unsafe { c::vm_list_slice(list.as_ptr(), list.len(), start, end) }
 }
 
 pub fn classify(entries: &[u32], ends: &[u32], count: usize, classes: &mut [u32]) -> Verdict {

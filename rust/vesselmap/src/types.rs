@@ -144,7 +144,7 @@ pub struct Record {
     pub cell: Cell,
     /// Whether it is a wall; otherwise it is Inside.
     pub surface: bool,
-    /// Where its triangles begin in the list of triangles: see [`part`](crate::part).
+    /// Where its triangles begin in the list of triangles: see [`list_slice`](crate::list_slice).
     pub start: u32,
     /// Where they end.
     pub end: u32,

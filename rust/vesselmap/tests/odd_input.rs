@@ -122,7 +122,7 @@ fn ranges_and_classes_of_any_numbers() {
         for a in WORDS {
             for b in WORDS {
                 held(check_range(list, a, b), true);
-                assert!(part(list, a, b).len() <= list.len());
+                assert!(list_slice(list, a, b).len() <= list.len());
                 for count in SIZES {
                     let mut o = [7; 3];
                     held(classify(list, &[a, b], count, &mut o), o == [7; 3]);

@@ -60,7 +60,7 @@ fn the_sample_list() {
     assert_eq!(listed, Ok(Listed { cells: 2, pairs: 3 }));
     assert_eq!(records, [0, 0, 0, 1, 0, 2, 1, 0, 0, 1, 2, 3, 77]);
     assert_eq!(list, [0, 1, 0, 77]);
-    let read: Vec<_> = Records::new(&records).iter().map(|r| part(&list, r.start, r.end).to_vec()).collect();
+    let read: Vec<_> = Records::new(&records).iter().map(|r| list_slice(&list, r.start, r.end).to_vec()).collect();
     assert_eq!(read, [vec![0, 1], vec![0]]);
     assert_eq!(list_cells(&labels, grid.axes, &mut records), Ok(Listed { cells: 2, pairs: 0 }));
     assert_eq!(records, [0, 0, 0, 1, 0, 0, 1, 0, 0, 1, 0, 0, 77]);
@@ -145,11 +145,11 @@ fn a_box() {
 #[test]
 fn parts_of_a_list() {
     let list = [10, 20, 30, 40];
-    assert_eq!(part(&list, 1, 3), &list[1..3]);
-    assert_eq!(part(&list, 1, 3).as_ptr(), list[1..].as_ptr());
-    assert_eq!(part(&list, 4, 4), &[] as &[u32]);
+    assert_eq!(list_slice(&list, 1, 3), &list[1..3]);
+    assert_eq!(list_slice(&list, 1, 3).as_ptr(), list[1..].as_ptr());
+    assert_eq!(list_slice(&list, 4, 4), &[] as &[u32]);
     for (start, end) in [(3, 1), (0, 5), (u32::MAX, 0), (5, u32::MAX)] {
-        assert_eq!(part(&list, start, end), &[] as &[u32]);
+        assert_eq!(list_slice(&list, start, end), &[] as &[u32]);
         assert_eq!(check_range(&list, start, end), Err(Refusal { number: 15, place: 0 }));
     }
     assert_eq!(check_range(&list, 2, 2), Ok(()));

@@ -15,18 +15,18 @@ use Rattle.boxes.proofs.boxes.Statement.{statement}
 use Rattle.boxes.proofs.boxes.Tie as tie
 
 -- the map's checks found nothing
-fine : (c : tie.After-enum-told) → boxesFault (c .before .before .before .before .before .before .args .labels .now) (c .before .before .before .before .before .before .args .r) (c .before .before .before .before .before .before .args .at) (c .before .before .before .before .before .before .args .label) ≡ Fine
+fine : (c : tie.After-enum-told) → boxesFault (c .before .before .before .before .before .before .args .labels .now) (c .before .before .before .before .before .before .args .r) (c .before .before .before .before .before .before .args .placement) (c .before .before .before .before .before .before .args .label) ≡ Fine
 fine c = sym (c .before .before .boxes-fault .ensures) ∙ c .enum-told .given .1
 
 sheet : (c : tie.After-enum-told) → Sheet (c .before .before .before .before .before .before .args .r) (c .before .before .before .before .before .before .args .labels .now)
-sheet c = sheet-left (c .before .before .before .before .before .before .args .labels .now) (c .before .before .before .before .before .before .args .r) (c .before .before .before .before .before .before .args .at) (c .before .before .before .before .before .before .args .label) (fine c)
+sheet c = sheet-left (c .before .before .before .before .before .before .args .labels .now) (c .before .before .before .before .before .before .args .r) (c .before .before .before .before .before .before .args .placement) (c .before .before .before .before .before .before .args .label) (fine c)
 
 -- the count is of the cells that have the label
 number : (c : tie.After-count-label) → c .count-label .result ≡ boxCount (c .before .before .before .before .before .before .before .args .labels .now) (c .before .before .before .before .before .before .before .args .r) (c .before .before .before .before .before .before .before .args .label)
 number c = c .count-label .ensures ∙ sym (box-count (c .before .before .before .before .before .before .before .args .labels .now) (c .before .before .before .before .before .before .before .args .r) (c .before .before .before .before .before .before .before .args .label) (sheet (c .before) .size))
 
 -- what the second check finds, all find
-all : (c : tie.After-rooms-fault) → c .rooms-fault .result ≡ allFault (c .before .before .before .before .before .before .before .before .args .labels .now) (c .before .before .before .before .before .before .before .before .args .r) (c .before .before .before .before .before .before .before .before .args .at) (c .before .before .before .before .before .before .before .before .args .label) (length (c .before .before .before .before .before .before .before .before .args .points .now)) (length (c .before .before .before .before .before .before .before .before .args .triangles .now))
+all : (c : tie.After-rooms-fault) → c .rooms-fault .result ≡ allFault (c .before .before .before .before .before .before .before .before .args .labels .now) (c .before .before .before .before .before .before .before .before .args .r) (c .before .before .before .before .before .before .before .before .args .placement) (c .before .before .before .before .before .before .before .before .args .label) (length (c .before .before .before .before .before .before .before .before .args .points .now)) (length (c .before .before .before .before .before .before .before .before .args .triangles .now))
 all c =
     let rooms : ℕ → Checked = λ n. roomsFault n (length (c .before .before .before .before .before .before .before .before .args .points .now)) (length (c .before .before .before .before .before .before .before .before .args .triangles .now)) in
     c .rooms-fault .ensures ∙ (λ t. sym (fine (c .before .before)) t andThen rooms (number (c .before) t))
@@ -65,12 +65,12 @@ returns : tie.Need-returns
 returns c =
     let a = c .before .before .before .before .before .before .before .args in
     let rooms = roomsFault (boxCount (a .labels .now) (a .r) (a .label)) (length (a .points .now)) (length (a .triangles .now)) in
-    refused-meets (a .labels .now) (a .r) (a .at) (a .label) (a .points .now) (a .triangles .now) _ (ap (λ (x : Checked). x andThen rooms) (sym (c .before .f .given .1) ∙ c .before .before .before .boxes-fault .ensures))
+    refused-meets (a .labels .now) (a .r) (a .placement) (a .label) (a .points .now) (a .triangles .now) _ (ap (λ (x : Checked). x andThen rooms) (sym (c .before .f .given .1) ∙ c .before .before .before .boxes-fault .ensures))
 
 returns-2 : tie.Need-returns-2
 returns-2 c =
     let a = c .before .before .before .before .before .before .before .before .before .before .before .args in
-    refused-meets (a .labels .now) (a .r) (a .at) (a .label) (a .points .now) (a .triangles .now) _ (sym (c .before .f2 .given .1) ∙ all (c .before .before .before))
+    refused-meets (a .labels .now) (a .r) (a .placement) (a .label) (a .points .now) (a .triangles .now) _ (sym (c .before .f2 .given .1) ∙ all (c .before .before .before))
 
 same-length : tie.Need-same-length
 same-length c = search needs
@@ -81,7 +81,7 @@ same-length-2 c = search needs
 returns-3 : tie.Need-returns-3
 returns-3 c =
     let a = c .before .before .before .before .before .before .before .before .before .before .before .before .before .before .before .before .before .args in
-    boxed-meets (a .labels .now) (a .r) (a .at) (a .label) (a .points .now) (a .triangles .now) _ _ _ (sym (all (c .before .before .before .before .before .before .before .before .before)) ∙ c .before .before .before .before .before .before .before .enum-told2 .given .1) (number (c .before .before .before .before .before .before .before .before .before .before)) (room (c .before .before .before .before .before .before .before)) (c .before .before .before .before .write-boxes .ensures)
+    boxed-meets (a .labels .now) (a .r) (a .placement) (a .label) (a .points .now) (a .triangles .now) _ _ _ (sym (all (c .before .before .before .before .before .before .before .before .before)) ∙ c .before .before .before .before .before .before .before .enum-told2 .given .1) (number (c .before .before .before .before .before .before .before .before .before .before)) (room (c .before .before .before .before .before .before .before)) (c .before .before .before .before .write-boxes .ensures)
 
 pub boxes-spec : {M : Type 1} → statement M
 boxes-spec =

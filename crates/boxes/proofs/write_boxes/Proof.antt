@@ -15,10 +15,10 @@ use Rattle.boxes.proofs.write_boxes.Statement.{statement}
 use Rattle.boxes.proofs.write_boxes.Tie as tie
 
 abbrev Inv-loop : tie.InvT-loop
-Inv-loop labels r label at points₀ triangles₀ n₀ next₀ points triangles n next = Writing labels r label at points₀ triangles₀ points triangles n next
+Inv-loop labels r label placement points₀ triangles₀ n₀ next₀ points triangles n next = Writing labels r label placement points₀ triangles₀ points triangles n next
 
 abbrev μ-loop : tie.MeasureT-loop
-μ-loop labels r label at points₀ triangles₀ n₀ next₀ points triangles n next = 33554432 - key next
+μ-loop labels r label placement points₀ triangles₀ n₀ next₀ points triangles n next = 33554432 - key next
 
 -- the cell of a turn is one of the grid
 here : (c : tie.Then1 Inv-loop μ-loop) → InGrid (c .before .before .before .before .before .before .before .args .r) (c .before .before .before .loop .next)
@@ -43,7 +43,7 @@ few : (c : tie.Then2 Inv-loop μ-loop) → c .before .before .before .before .be
 few c = omega (arith, room c, count-few (c .before .before .before .before .before .before .before .before .before .before .before .args .labels .now) (c .before .before .before .before .before .before .before .before .before .before .before .args .r) (c .before .before .before .before .before .before .before .before .before .before .before .args .label) (c .before .before .before .before .before .before .before .before .before .before .before .pre .0))
 
 loop-holds : tie.Need-loop-holds Inv-loop μ-loop
-loop-holds c = let a = c .before .before .before .args in writing-none (a .labels .now) (a .r) (a .label) (a .at) (a .points .now) (a .triangles .now) (c .before .before .before .pre .0)
+loop-holds c = let a = c .before .before .before .args in writing-none (a .labels .now) (a .r) (a .label) (a .placement) (a .points .now) (a .triangles .now) (c .before .before .before .pre .0)
 
 following-requires : tie.Need-following-requires Inv-loop μ-loop
 following-requires c κs = (c .before .before .before .before .before .before .before .pre .0 .sound, here c)

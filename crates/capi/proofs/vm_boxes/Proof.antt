@@ -2,16 +2,16 @@
 use Rattle.boxes.specs.Boxes.{boxesAnswer, pointsBuffer, trianglesBuffer}
 use Rattle.grid.specs.declared.Axes.{Axes}
 use Rattle.grid.specs.declared.Placement.{Placement}
-use Rattle.flat.proofs.Laws.{told, both, wrote}
+use Rattle.capi_flat.proofs.Laws.{told, both, wrote}
 use borrow.Author.Needs.{needs}
 use Rattle.capi.proofs.vm_boxes.Statement.{statement}
 use Rattle.capi.proofs.vm_boxes.Tie as tie
 
-axes-of-requires : tie.Need-axes-of-requires
-axes-of-requires c κs = search needs
+to-axes-requires : tie.Need-to-axes-requires
+to-axes-requires c κs = search needs
 
-placement-of-requires : tie.Need-placement-of-requires
-placement-of-requires c κs = search needs
+to-placement-requires : tie.Need-to-placement-requires
+to-placement-requires c κs = search needs
 
 boxes-requires : tie.Need-boxes-requires
 boxes-requires c κs = search needs
@@ -28,15 +28,15 @@ same-length-2 c = search needs
 returns : tie.Need-returns
 returns c =
     let a = c .before .before .before .before .before .before .before .before .before .before .before .before .before .args in
-    let e = both (c .before .before .before .before .before .before .before .before .before .axes-of .ensures) (c .before .before .before .before .before .before .before .before .placement-of .ensures) in
+    let e = both (c .before .before .before .before .before .before .before .before .before .to-axes .ensures) (c .before .before .before .before .before .before .before .before .to-placement .ensures) in
     (told 0 (λ (x : Axes × Placement). boxesAnswer (a .labels .now) (x .0) (x .1) (a .label) (a .points .now) (a .triangles .now)) _ _ _ _ e (c .of-boxing .ensures) (c .before .before .before .before .before .boxes .ensures .0), (wrote (λ (x : Axes × Placement). pointsBuffer (a .labels .now) (x .0) (x .1) (a .label) (a .points .now) (a .triangles .now)) _ _ _ e (c .before .before .before .before .before .boxes .ensures .1 .0), wrote (λ (x : Axes × Placement). trianglesBuffer (a .labels .now) (x .0) (x .1) (a .label) (a .points .now) (a .triangles .now)) _ _ _ e (c .before .before .before .before .before .boxes .ensures .1 .1)))
 
 pub vm-boxes-spec : {M : Type 1} → statement M
 vm-boxes-spec =
     tie.close
     (tie.spec
-    axes-of-requires
-    placement-of-requires
+    to-axes-requires
+    to-placement-requires
     boxes-requires
     of-boxing-requires
     same-length

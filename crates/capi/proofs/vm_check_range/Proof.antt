@@ -1,8 +1,8 @@
 -- `capi::vm_check_range` meets its contract: what the check finds, flat. Assumes nothing.
 use mathlib.Core.Path.{ap, _∙_}
 use Rattle.grid.specs.declared.Checked.{Checked}
-use Rattle.flat.specs.Flat.{flatOf}
-use Rattle.flat.specs.Structs.{asAnswer}
+use Rattle.capi_flat.specs.Flat.{flatOf}
+use Rattle.capi_flat.specs.Structs.{asAnswer}
 use borrow.Author.Needs.{needs}
 use Rattle.capi.proofs.vm_check_range.Statement.{statement}
 use Rattle.capi.proofs.vm_check_range.Tie as tie

@@ -1,6 +1,6 @@
 -- `capi::vm_classify` meets its contract: what classes answer, flat, and their output. Assumes nothing.
 use mathlib.Core.Path.{ap, _∙_}
-use Rattle.flat.specs.Flat.{flatOf}
+use Rattle.capi_flat.specs.Flat.{flatOf}
 use borrow.Author.Needs.{needs}
 use Rattle.capi.proofs.vm_classify.Statement.{statement}
 use Rattle.capi.proofs.vm_classify.Tie as tie

@@ -2,8 +2,8 @@
 use borrow.Author.Needs.{needs}
 use mathlib.Core.Path.{refl}
 use mathlib.Core.List.{[], _∷_}
-use Rattle.records.proofs.Laws.{run-numbers}
-use Rattle.flat.proofs.Laws.{tells}
+use Rattle.program.proofs.Laws.{run-numbers}
+use Rattle.capi_flat.proofs.Laws.{tells}
 use Rattle.capi.proofs.vm_run.Statement.{statement}
 use Rattle.capi.proofs.vm_run.Tie as tie
 

@@ -1,7 +1,7 @@
 -- `capi::vm_split` meets its contract: what split answers, flat, and its two outputs. Assumes nothing.
 use mathlib.Core.Path.{ap, _∙_}
-use Rattle.flat.specs.Flat.{flatOf}
-use Rattle.flat.specs.Structs.{noSides}
+use Rattle.capi_flat.specs.Flat.{flatOf}
+use Rattle.capi_flat.specs.Structs.{noSides}
 use borrow.Author.Needs.{needs}
 use Rattle.capi.proofs.vm_split.Statement.{statement}
 use Rattle.capi.proofs.vm_split.Tie as tie

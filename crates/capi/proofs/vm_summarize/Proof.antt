@@ -1,9 +1,9 @@
 -- `capi::vm_summarize` meets its contract: what the call tells, flat. Assumes nothing.
 use borrow.Author.Needs.{needs}
 use mathlib.Core.Path.{refl}
-use Rattle.summary.proofs.Once.{numbers, summary-numbers}
-use Rattle.flat.specs.Structs.{noSummary}
-use Rattle.flat.proofs.Laws.{tells}
+use Rattle.program_summary.proofs.Once.{numbers, summary-numbers}
+use Rattle.capi_flat.specs.Structs.{noSummary}
+use Rattle.capi_flat.proofs.Laws.{tells}
 use Rattle.capi.proofs.vm_summarize.Statement.{statement}
 use Rattle.capi.proofs.vm_summarize.Tie as tie
 

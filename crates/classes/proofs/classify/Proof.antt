@@ -10,7 +10,7 @@ use Rattle.grid.specs.declared.Checked.the-variants.{Fine}
 use Rattle.grid.specs.Answers.{answers}
 use Rattle.order.specs.Output.{over}
 use Rattle.order.proofs.Lent.{refused-answer, refused-lent, fine-answer, fine-lent}
-use Rattle.classes.specs.Classes.{noClass, classOf, classesOf, classFault, Named, Ended}
+use Rattle.classes.specs.Classes.{noClass, classOf, classesOf, classFault, NamedBelow, Ended}
 use Rattle.classes.proofs.Ending.{class-fine}
 use Rattle.classes.proofs.Naming.{classes-over, classes-then, classes-stay}
 use Rattle.classes.proofs.classify.Statement.{statement}
@@ -30,7 +30,7 @@ classed s = over (classesOf (s .args .entries .now) (s .args .ends .now) (s .arg
 fine : (c : tie.After-enum-told) → checks (c .before .before .before .before .before .before) ≡ Fine
 fine c = sym (c .before .before .class-fault .ensures) ∙ c .enum-told .given .1
 
-ready : (s : tie.Start) → checks s ≡ Fine → Named (s .args .entries .now) (s .args .count) × (s .args .count ≤ length (lent s)) × Ended (s .args .ends .now) (length (s .args .entries .now))
+ready : (s : tie.Start) → checks s ≡ Fine → NamedBelow (s .args .entries .now) (s .args .count) × (s .args .count ≤ length (lent s)) × Ended (s .args .ends .now) (length (s .args .entries .now))
 ready s h = class-fine (s .args .entries .now) (s .args .ends .now) (s .args .count) (length (lent s)) h
 
 class-fault-requires : tie.Need-class-fault-requires

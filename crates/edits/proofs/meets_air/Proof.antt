@@ -4,7 +4,7 @@ use mathlib.Core.Path.{refl, sym, _∙_}
 use Prim.Native.Nat.{_-_}
 use native.Mathlib.Omega.{arith}
 use Rattle.grid.proofs.Cells.{border-test}
-use Rattle.reach.proofs.Tests.{true-false}
+use Rattle.edits_reach.proofs.Tests.{true-false}
 use Rattle.edits.proofs.Openings.{NoAir, air-none, air-more, air-found, air-all}
 use Rattle.edits.proofs.meets_air.Statement.{statement}
 use Rattle.edits.proofs.meets_air.Tie as tie

@@ -1,4 +1,4 @@
--- `edits::open_surface` meets its contract: a walk, or one cell. Assumes nothing.
+-- `edits::open_surface` meets its contract: a trip, or one cell. Assumes nothing.
 use native.Mathlib.Omega.{arith}
 use lib.ListN.{length-set}
 use Rattle.grid.proofs.Cells.{num-lt}
@@ -12,14 +12,14 @@ number-requires c κs = (c .before .pre .1 .0, c .before .pre .0 .sound)
 meets-air-requires : tie.Need-meets-air-requires
 meets-air-requires c κs = (c .before .before .before .pre .0, (c .before .before .before .pre .1 .0, c .before .number .ensures))
 
-walk-requires : tie.Need-walk-requires
-walk-requires c κs = open-ready _ _ _ (c .before .before .before .before .before .before .pre .0) (c .before .before .before .before .before .before .pre .1 .0) (c .before .before .before .before .before .before .pre .1 .1)
+reach-requires : tie.Need-reach-requires
+reach-requires c κs = open-ready _ _ _ (c .before .before .before .before .before .before .pre .0) (c .before .before .before .before .before .before .pre .1 .0) (c .before .before .before .before .before .before .pre .1 .1)
 
 same-length : tie.Need-same-length
-same-length c = c .before .before .walk .kept .0
+same-length c = c .before .before .reach .kept .0
 
 returns : tie.Need-returns
-returns c = opened _ _ _ (c .before .before .before .before .before .before .before .before .before .pre .0) (c .before .before .before .before .before .before .before .before .before .pre .1 .0) (c .before .before .before .before .before .before .before .before .before .pre .1 .1) _ _ (c .before .before .before .before .before .meets-air .ensures .0 (c .before .before .before .before .if1 .taken)) (c .before .before .walk .ensures)
+returns c = opened _ _ _ (c .before .before .before .before .before .before .before .before .before .pre .0) (c .before .before .before .before .before .before .before .before .before .pre .1 .0) (c .before .before .before .before .before .before .before .before .before .pre .1 .1) _ _ (c .before .before .before .before .before .meets-air .ensures .0 (c .before .before .before .before .if1 .taken)) (c .before .before .reach .ensures)
 
 slice-write-l : tie.Need-slice-write-l
 slice-write-l c = omega (arith, c .before .before .before .number .ensures, num-lt (c .before .before .before .before .before .args .r) (c .before .before .before .before .before .args .c) (c .before .before .before .before .before .pre .1 .0), c .before .before .before .before .before .pre .0 .size)
@@ -36,7 +36,7 @@ open-surface-spec =
     (tie.spec
     number-requires
     meets-air-requires
-    walk-requires
+    reach-requires
     same-length
     returns
     slice-write-l

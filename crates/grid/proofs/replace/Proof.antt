@@ -17,11 +17,11 @@ abbrev μ-loop : tie.MeasureT-loop
 loop-holds : tie.Need-loop-holds Inv-loop μ-loop
 loop-holds c = (within-none _ _ _, omega arith, c .before .pre .0)
 
-slice-read-turned : tie.Need-slice-read-turned Inv-loop μ-loop
-slice-read-turned c = omega (arith, c .before .loop-test .taken, c .before .before .loop .inv .0 .size, c .before .before .before .before .pre .1)
+slice-read-replaced-by : tie.Need-slice-read-replaced-by Inv-loop μ-loop
+slice-read-replaced-by c = omega (arith, c .before .loop-test .taken, c .before .before .loop .inv .0 .size, c .before .before .before .before .pre .1)
 
-turned-requires : tie.Need-turned-requires Inv-loop μ-loop
-turned-requires c κs = tt
+replaced-by-requires : tie.Need-replaced-by-requires Inv-loop μ-loop
+replaced-by-requires c κs = tt
 
 slice-write-labels : tie.Need-slice-write-labels Inv-loop μ-loop
 slice-write-labels c = omega (arith, c .before .before .loop-test .taken, c .before .before .before .loop .inv .0 .size, c .before .before .before .before .before .pre .1)
@@ -35,7 +35,7 @@ loop-less c = omega (arith, c .before .before .loop-test .taken)
 loop-again : tie.Need-loop-again Inv-loop μ-loop
 loop-again c =
     let v = c .before .before .before .loop .inv in
-    (within-more _ _ _ _ _ _ (v .0) (v .1) (omega (arith, c .before .before .loop-test .taken, v .0 .size, c .before .before .before .before .before .pre .1)) (c .turned .ensures), omega (arith, v .1), omega (arith, c .before .before .loop-test .taken))
+    (within-more _ _ _ _ _ _ (v .0) (v .1) (omega (arith, c .before .before .loop-test .taken, v .0 .size, c .before .before .before .before .before .pre .1)) (c .replaced-by .ensures), omega (arith, v .1), omega (arith, c .before .before .loop-test .taken))
 
 same-length : tie.Need-same-length Inv-loop μ-loop
 same-length c = c .before .loop .inv .0 .size
@@ -54,8 +54,8 @@ replace-spec =
     Inv-loop
     μ-loop
     loop-holds
-    slice-read-turned
-    turned-requires
+    slice-read-replaced-by
+    replaced-by-requires
     slice-write-labels
     add-n
     loop-less

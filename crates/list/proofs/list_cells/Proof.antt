@@ -17,7 +17,7 @@ use Rattle.grid.proofs.Checks.{map-fine}
 use Rattle.order.specs.Order.{knownLabels}
 use Rattle.order.specs.Output.{roomFault, over}
 use Rattle.order.proofs.Outputs.{written-over, then-first, then-next, room-fine}
-use Rattle.listed.specs.Listed.{width}
+use Rattle.list_record.specs.Record.{width}
 use Rattle.list.specs.List.{listed, plainRecords}
 use Rattle.list.proofs.Rows.{rows-length}
 

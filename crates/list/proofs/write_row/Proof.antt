@@ -11,7 +11,7 @@ use Rattle.grid.specs.Grid.{InGrid, num, at}
 use Rattle.grid.proofs.Cells.{num-lt}
 use Rattle.order.specs.Order.{row}
 use Rattle.order.specs.Output.{Written}
-use Rattle.listed.specs.Listed.{width, numbersOf}
+use Rattle.list_record.specs.Record.{width, numbersOf}
 use Rattle.list.specs.List.{isListed, flagOf, RoomFrom}
 use Rattle.list.proofs.Rows.{Parts, parts-none, parts-room, parts-yes, parts-no, one-yes, row-none, row-next, row-part}
 

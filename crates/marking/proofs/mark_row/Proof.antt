@@ -1,4 +1,4 @@
--- `marking::mark_row` meets its contract: a loop along i (`Along`), a cell painted in each turn, over the part that the slabs leave. Assumes nothing.
+-- `marking::mark_row` meets its contract: a loop along i (`Along`), a cell painted in each turn, over the part that the bands leave. Assumes nothing.
 use native.Mathlib.Omega.{arith}
 use native.Mathlib.Nat.{le-trans}
 use mathlib.Core.Path.{sym, subst}
@@ -7,7 +7,7 @@ use lib.ListN.{length, set}
 use Rattle.grid.specs.declared.Cell.{Cell}
 use Rattle.grid.specs.Grid.{InGrid, Sheet}
 use Rattle.grid.proofs.Cells.{num-lt}
-use Rattle.mesh.specs.Ranges.{holds}
+use Rattle.marking_mesh.specs.Ranges.{holds}
 use Rattle.marking.specs.Painted.{Painted, rowOf, one}
 use Rattle.marking.proofs.Paint.{Along, along-starts, along-on, along-sheet, painted-same, painted-cell, none-held, more-held, done-held, held-left}
 use Rattle.marking.proofs.mark_row.Statement.{statement}

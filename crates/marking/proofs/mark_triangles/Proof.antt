@@ -5,7 +5,7 @@ use Prim.Native.Nat.{ℕ, _-_, _≤_}
 use Rattle.grid.specs.declared.Cell.{Cell}
 use Rattle.grid.specs.First.{someBelow}
 use Rattle.grid.proofs.First.{some-none, some-more}
-use Rattle.mesh.specs.Mesh.{triangles}
+use Rattle.marking_mesh.specs.Mesh.{triangles}
 use Rattle.marking.specs.Marked.{hits}
 use Rattle.marking.specs.Painted.{Painted}
 use Rattle.marking.proofs.Paint.{painted-none, painted-then, painted-sheet}
@@ -13,15 +13,15 @@ use Rattle.marking.proofs.mark_triangles.Statement.{statement}
 use Rattle.marking.proofs.mark_triangles.Tie as tie
 
 abbrev Inv-loop : tie.InvT-loop
-Inv-loop labels₀ ps ts r at n t₀ labels t = Painted r (λ (c : Cell). someBelow t (λ u. hits ps ts r at u c)) labels₀ labels × (t ≤ n)
+Inv-loop labels₀ ps ts r placement n t₀ labels t = Painted r (λ (c : Cell). someBelow t (λ u. hits ps ts r placement u c)) labels₀ labels × (t ≤ n)
 
 abbrev μ-loop : tie.MeasureT-loop
-μ-loop labels₀ ps ts r at n t₀ labels t = n - t
+μ-loop labels₀ ps ts r placement n t₀ labels t = n - t
 
 loop-holds : tie.Need-loop-holds Inv-loop μ-loop
 loop-holds c =
     let a = c .before .before .before .args in
-    (painted-none (a .r) _ (a .labels .now) (λ (d : Cell). some-none (λ u. hits (a .ps .now) (a .ts .now) (a .r) (a .at) u d)), omega arith)
+    (painted-none (a .r) _ (a .labels .now) (λ (d : Cell). some-none (λ u. hits (a .ps .now) (a .ts .now) (a .r) (a .placement) u d)), omega arith)
 
 mark-triangle-requires : tie.Need-mark-triangle-requires Inv-loop μ-loop
 mark-triangle-requires c κs =
@@ -39,7 +39,7 @@ loop-again : tie.Need-loop-again Inv-loop μ-loop
 loop-again c =
     let a = c .before .before .before .before .before .before .before .before .before .args in
     let t = c .before .before .before .before .before .loop .t in (
-      painted-then (a .r) _ _ _ _ _ _ (c .before .before .before .before .before .loop .inv .0) (c .before .before .mark-triangle .ensures) (λ (d : Cell). some-more t (λ u. hits (a .ps .now) (a .ts .now) (a .r) (a .at) u d)),
+      painted-then (a .r) _ _ _ _ _ _ (c .before .before .before .before .before .loop .inv .0) (c .before .before .mark-triangle .ensures) (λ (d : Cell). some-more t (λ u. hits (a .ps .now) (a .ts .now) (a .r) (a .placement) u d)),
       omega (arith, c .before .before .before .before .loop-test .taken),
     )
 
@@ -51,7 +51,7 @@ returns c =
     let a = c .before .before .before .before .before .args in
     let w = c .before .loop .inv in
     let e : c .before .loop .t ≡ triangles (a .ts .now) = omega (arith, w .1, c .loop-test .left) in
-    subst (λ (n : ℕ). Painted (a .r) (λ (d : Cell). someBelow n (λ u. hits (a .ps .now) (a .ts .now) (a .r) (a .at) u d)) (a .labels .now) (c .before .loop .labels)) e (w .0)
+    subst (λ (n : ℕ). Painted (a .r) (λ (d : Cell). someBelow n (λ u. hits (a .ps .now) (a .ts .now) (a .r) (a .placement) u d)) (a .labels .now) (c .before .loop .labels)) e (w .0)
 
 pub mark-triangles-spec : {M : Type 1} → statement M
 mark-triangles-spec =

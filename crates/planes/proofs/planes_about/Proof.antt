@@ -11,13 +11,13 @@ use Rattle.grid.specs.declared.Checked.{Checked}
 use Rattle.grid.specs.declared.Checked.the-variants.{Fine, Fault}
 use Rattle.grid.specs.declared.Refusal.{Refusal}
 use Rattle.grid.specs.Answers.{Outcome, answers, refuses, _andThen_, unless, lentAfter}
-use Rattle.mesh.specs.Mesh.{originAlong}
+use Rattle.marking_mesh.specs.Mesh.{originAlong}
 use Rattle.order.specs.Output.{Written, roomFault, over}
 use Rattle.order.proofs.Lent.{refused-answer, refused-lent, fine-answer, fine-lent}
 use Rattle.order.proofs.Outputs.{written-over, then-first, then-next, room-fine}
 use Rattle.planes.specs.declared.Planes.{Planes}
 use Rattle.planes.specs.Planes.{firstPlane, planeCount, planesOf, planesFault}
-use Rattle.axial.proofs.Ranges.{InRange, planes-fine, planes-in, planes-length}
+use Rattle.planes_range.proofs.Ranges.{InRange, planes-fine, planes-in, planes-length}
 use Rattle.planes.proofs.planes_about.Statement.{statement}
 use Rattle.planes.proofs.planes_about.Tie as tie
 
@@ -32,10 +32,10 @@ abbrev count : tie.Start → ℕ
 count s = planeCount (s .args .low) (s .args .high) (s .args .best) (s .args .step)
 
 abbrev planes : tie.Start → List Float
-planes s = planesOf (originAlong (s .args .at) (s .args .axis)) (s .args .at .scale) (first s) (count s)
+planes s = planesOf (originAlong (s .args .placement) (s .args .axis)) (s .args .placement .scale) (first s) (count s)
 
 abbrev early : tie.Start → Checked
-early s = planesFault (s .args .at) (s .args .axis) (s .args .low) (s .args .high) (s .args .best) (s .args .step)
+early s = planesFault (s .args .placement) (s .args .axis) (s .args .low) (s .args .high) (s .args .best) (s .args .step)
 
 abbrev late : tie.Start → Checked
 late s = roomFault (length (lent s)) (count s)
@@ -56,7 +56,7 @@ fine : (c : tie.After-enum-told) → early (c .before .before .before .before) �
 fine c = sym (c .before .before .planes-fault .ensures) ∙ c .enum-told .given .1
 
 in-range : (s : tie.Start) → early s ≡ Fine → InRange (s .args .low) (s .args .high) (s .args .best) (s .args .step)
-in-range s h = planes-fine (s .args .low) (s .args .high) (s .args .best) (s .args .step) (s .args .at) (s .args .axis) h
+in-range s h = planes-fine (s .args .low) (s .args .high) (s .args .best) (s .args .step) (s .args .placement) (s .args .axis) h
 
 -- how many planes there are, and what 14 says of them
 counted : (c : tie.Joined1) → c .if1 .count ≡ count (c .before .before .before .before .before .before .before)
@@ -132,8 +132,8 @@ returns-3 c =
     let ok = sym (then-next (early s) (late s) (fine (c .before .before .before .before .before .before .before .before .before .before .before))) ∙ room in
     let is-first = c .before .before .before .before .before .before .before .before .before .before .first-plane .ensures in
     let is-count = counted (c .before .before .before .before .before .before .before .before) in
-    let w = subst (λ (l : List Float). Written nan 0 l o m) (λ t. planesOf (c .before .before .before .origin-along .ensures t) (s .args .at .scale) (is-first t) (is-count t)) (c .before .before .write-planes .ensures) in
-    let size = planes-length (originAlong (s .args .at) (s .args .axis)) (s .args .at .scale) (first s) (count s) in (
+    let w = subst (λ (l : List Float). Written nan 0 l o m) (λ t. planesOf (c .before .before .before .origin-along .ensures t) (s .args .placement .scale) (is-first t) (is-count t)) (c .before .before .write-planes .ensures) in
+    let size = planes-length (originAlong (s .args .placement) (s .args .axis)) (s .args .placement .scale) (first s) (count s) in (
       (λ t. answers (record { first = is-first t; count = is-count t })) ∙ fine-answer (checks s) (answer s) ok,
       written-over nan (planes s) o m (omega (arith, size, fits s room)) w ∙ fine-lent (checks s) o (over (planes s) o) ok,
     )

@@ -20,17 +20,17 @@ as-float-requires c κs = search needs
 trunc-requires : tie.Need-trunc-requires
 trunc-requires c κs = search needs
 
-counted-requires : tie.Need-counted-requires
-counted-requires c κs = search needs
+cells-of-requires : tie.Need-cells-of-requires
+cells-of-requires c κs = search needs
 
 add-result : tie.Need-add-result
-add-result c = omega (arith, c .counted .ensures .room)
+add-result c = omega (arith, c .cells-of .ensures .room)
 
 returns-2 : tie.Need-returns-2
 returns-2 c =
     let s = c .before .before .before .before in
-    ap (λ (n : ℕ). 2 + n) (c .counted .ensures .is ∙ ap natural (c .before .trunc .ensures ∙ ap (λ (f : Float). truncOf (div binary32 (mul binary32 f (s .args .d)) (s .args .dmain))) (c .before .before .as-float .ensures)))
+    ap (λ (n : ℕ). 2 + n) (c .cells-of .ensures .is ∙ ap natural (c .before .trunc .ensures ∙ ap (λ (f : Float). truncOf (div binary32 (mul binary32 f (s .args .d)) (s .args .dmain))) (c .before .before .as-float .ensures)))
     ∙ other _ _ _ (ne-eqb (s .args .m) (s .args .a) (c .before .before .before .if1 .left))
 
 pub axis-by-resolution-spec : {M : Type 1} → statement M
-axis-by-resolution-spec = tie.close (tie.spec returns as-float-requires trunc-requires counted-requires add-result returns-2)
+axis-by-resolution-spec = tie.close (tie.spec returns as-float-requires trunc-requires cells-of-requires add-result returns-2)

@@ -4,7 +4,7 @@ use mathlib.Core.Path.{_≡_, sym, ap, _∙_}
 use Prim.Native.Nat.{ℕ, _-_}
 use lib.Ieee.{Float, binary32, lt, div, ofBits}
 use Rattle.grid.proofs.Checks.{refused-here, refused-not}
-use Rattle.sizing.specs.Sizing.{mainOf, dmainOf, extent, extentAt, axisByResolution, countOf, placedAt, resolutionAxes, resolutionScale, gridOf, leastExtent}
+use Rattle.sizing.specs.Sizing.{mainOf, dmainOf, extent, extentAt, axisByResolution, asFloat, placedAt, resolutionAxes, resolutionScale, gridOf, leastExtent}
 use Rattle.sizing.proofs.resolution_grid.Statement.{statement}
 use Rattle.sizing.proofs.resolution_grid.Tie as tie
 
@@ -62,7 +62,7 @@ returns-2 c =
     let e0 : a0 .axis-by-resolution .result ≡ resolutionAxes s r .r0 = a0 .axis-by-resolution .ensures ∙ (λ t. axisByResolution r (em t) 0 (extent (s .x)) (ed t)) in
     let e1 : a1 .axis-by-resolution2 .result ≡ resolutionAxes s r .r1 = a1 .axis-by-resolution2 .ensures ∙ (λ t. axisByResolution r (em t) 1 (extent (s .y)) (ed t)) in
     let e2 : a2 .axis-by-resolution3 .result ≡ resolutionAxes s r .r2 = a2 .axis-by-resolution3 .ensures ∙ (λ t. axisByResolution r (em t) 2 (extent (s .z)) (ed t)) in
-    let k : n .as-float .result ≡ countOf (r - 1) = n .as-float .ensures in
+    let k : n .as-float .result ≡ asFloat (r - 1) = n .as-float .ensures in
     let at : p .placed .result ≡ placedAt s (resolutionScale s r) = p .placed .ensures ∙ (λ t. placedAt s (div binary32 (ed t) (k t))) in
     c .graded .ensures
     ∙ (λ t. gridOf (record { r0 = e0 t; r1 = e1 t; r2 = e2 t }) (at t))

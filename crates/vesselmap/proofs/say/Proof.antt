@@ -4,9 +4,9 @@ use native.Mathlib.Omega.{arith}
 use mathlib.Core.Path.{sym, subst}
 use Prim.Native.Nat.{_≤_}
 use lib.Seq.{length-take-le}
-use Rattle.records.specs.declared.Writing.{Writing}
-use Rattle.records.specs.Records.{outcome, Runs}
-use Rattle.records.proofs.Laws.{run-fits}
+use Rattle.program.specs.declared.Writing.{Writing}
+use Rattle.program.specs.Records.{outcome, Runs}
+use Rattle.program.proofs.Laws.{run-fits}
 use Rattle.vesselmap.proofs.say.Statement.{statement}
 use Rattle.vesselmap.proofs.say.Tie as tie
 

@@ -1,0 +1,23 @@
+-- `capi_flat::of_boxing` meets its contract: case by case. Assumes nothing.
+use mathlib.Core.Path.{sym, ap}
+use Rattle.boxes.specs.declared.Boxing.{Boxing}
+use Rattle.boxes.specs.Boxes.{outcome}
+use Rattle.capi_flat.specs.Flat.{flatOf}
+use borrow.Author.Needs.{needs}
+use Rattle.capi_flat.proofs.of_boxing.Statement.{statement}
+use Rattle.capi_flat.proofs.of_boxing.Tie as tie
+
+enum-known-m : tie.Need-enum-known-m
+enum-known-m c = search needs
+
+enum-known-m-2 : tie.Need-enum-known-m-2
+enum-known-m-2 c = search needs
+
+returns : tie.Need-returns
+returns c = ap (λ (x : Boxing). flatOf 0 (outcome x)) (sym (c .before .m .given .1))
+
+returns-2 : tie.Need-returns-2
+returns-2 c = ap (λ (x : Boxing). flatOf 0 (outcome x)) (sym (c .before .m2 .given .1))
+
+pub of-boxing-spec : {M : Type 1} → statement M
+of-boxing-spec = tie.close (tie.spec enum-known-m enum-known-m-2 returns returns-2)

@@ -1,0 +1,2 @@
+pub mod Entering
+pub mod Rowing

@@ -1,2 +1,0 @@
-pub mod Visiting
-pub mod Rowing
