@@ -16,14 +16,14 @@ fn look_along(l: &[u8], r: Axes, c: Cell, n: usize, d: u8) -> bool
     requires { ⌜ InGrid r c × (n ≡ num r c) ⌝ }
     ensures { λ b. ⌜ (b ≡ true → Leads r (now (l .entry)) c) ⌝ }
 {
-    let mut at = c;
+    let mut here = c;
     let mut m = n;
     loop {
-        let a = edits_reach::look(l, r, at, m, d);
+        let a = edits_reach::look(l, r, here, m, d);
         if a.label != OUTSIDE {
             return (a.label < OUTSIDE) | a.edge;
         }
-        at = edits_reach::neighbour(r, at, d);
+        here = edits_reach::neighbour(r, here, d);
         m = a.n;
     }
 }
@@ -52,16 +52,16 @@ fn bent(l: &[u8], r: Axes, c: Cell, n: usize, d: u8) -> bool
     requires { ⌜ InGrid r c × (n ≡ num r c) ⌝ }
     ensures { λ b. ⌜ (b ≡ true → Leads r (now (l .entry)) c) ⌝ }
 {
-    let mut at = c;
+    let mut here = c;
     let mut m = n;
     loop {
-        let a = edits_reach::look(l, r, at, m, d);
+        let a = edits_reach::look(l, r, here, m, d);
         if a.label != OUTSIDE {
             return false;
         }
-        at = edits_reach::neighbour(r, at, d);
+        here = edits_reach::neighbour(r, here, d);
         m = a.n;
-        if straight(l, r, at, m, d / 2) {
+        if straight(l, r, here, m, d / 2) {
             return true;
         }
     }

@@ -88,7 +88,7 @@ fn phase_in_turn(labels: &mut [u8], r: Axes, inward: bool) -> usize
     fill_scans::run_phase(labels, p, r)
 }
 
-// Phases inward and outward in phase_in_turn, until one has walked none; answers the number of scans.
+// Phases inward and outward in turn, until one has walked none; answers the number of scans.
 fn phases_in_turn(labels: &mut [u8], r: Axes) -> usize
     requires { ⌜ Sheet r (now labels) ⌝ }
     ensures { λ n. ⌜ Alternate r true (now (labels .entry)) (now (labels .exit)) n ⌝ }

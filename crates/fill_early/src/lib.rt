@@ -4,7 +4,7 @@
 ghost use mathlib.Core.Bool.{true, false, cond, _||_};
 ghost use mathlib.Core.Logic.{_⊎_};
 ghost use mathlib.Core.Path.{_≡_};
-ghost use Prim.Native.Nat.{ℕ, _+_, _*_, _-_, _≤_, _<_, min};
+ghost use Prim.Native.Nat.{ℕ, _+_, _*_, _-_, _≤_, _<_};
 ghost use lib.Dec.{eqb};
 ghost use lib.ListN.{length, getD};
 ghost use Rattle.grid.specs.Grid.{num, InGrid, Sheet};
@@ -397,9 +397,9 @@ pub fn set_early(
     let all = r.r2;
     let mut walked = before;
     let mut g = 0usize;
-    while 16 * g < all {
-        let from = 16 * g;
-        let to = fill_walks::smaller(from + 16, all);
+    while fill_groups::GROUP * g < all {
+        let from = fill_groups::GROUP * g;
+        let to = fill_walks::smaller(from + fill_groups::GROUP, all);
         walked = early_groups(l, table, p, r, slabs, Stretch { from, to }, walked);
         g += 1;
     }

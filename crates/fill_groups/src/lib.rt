@@ -6,15 +6,25 @@ ghost use mathlib.Core.Path.{_≡_};
 ghost use Prim.Native.Nat.{ℕ, _+_, _*_, _≤_, _<_};
 ghost use lib.ListN.{length, getD};
 ghost use Rattle.fill_groups.specs.Groups.{tableLength, placeAt, Up, Raises};
+use grid::AXIS_MOST;
 
-pub const TABLE_LENGTH: usize = 69632;
+// A group has so many cells along i, and along k; a walk of 64 cells passes four of them.
+pub const GROUP: usize = 16;
+
+const GROUP_LESS_ONE: usize = GROUP - 1;
+
+// The groups of a block: one for each j, and for each sixteen layers.
+const BLOCK: usize = GROUP * AXIS_MOST;
+
+// There are 17 blocks: the cells with i = 0, and sixteen times sixteen slabs.
+pub const TABLE_LENGTH: usize = 17 * BLOCK;
 
 // Where the group of cell (i, j, k) stands in the table.
 pub fn place(i: usize, j: usize, k: usize) -> usize
     requires { ⌜ (i < 256) × (j < 256) × (k < 256) ⌝ }
     ensures { λ n. ⌜ (n ≡ placeAt i j k) × (n < tableLength) ⌝ }
 {
-    ((i + 15) / 16 * 16 + k / 16) * 256 + j
+    ((i + GROUP_LESS_ONE) / GROUP * GROUP + k / GROUP) * AXIS_MOST + j
 }
 
 // Raises `count` bytes, a stride apart.
@@ -40,7 +50,12 @@ pub fn raise_i(table: &mut [u8], low: usize, high: usize, j: usize, k: usize)
     ensures { λ _. ⌜ ((i : ℕ) → low ≤ i → i ≤ high → Up (now (table .exit)) (placeAt i j k)) ⌝ }
 {
     let n = place(low, j, k);
-    raise(table, n, 4096, (high + 15) / 16 - (low + 15) / 16 + 1);
+    raise(
+        table,
+        n,
+        BLOCK,
+        (high + GROUP_LESS_ONE) / GROUP - (low + GROUP_LESS_ONE) / GROUP + 1,
+    );
 }
 
 pub fn raise_j(table: &mut [u8], i: usize, low: usize, high: usize, k: usize)
@@ -58,7 +73,7 @@ pub fn raise_k(table: &mut [u8], i: usize, j: usize, low: usize, high: usize)
     ensures { λ _. ⌜ ((k : ℕ) → low ≤ k → k ≤ high → Up (now (table .exit)) (placeAt i j k)) ⌝ }
 {
     let n = place(i, j, low);
-    raise(table, n, 256, high / 16 - low / 16 + 1);
+    raise(table, n, AXIS_MOST, high / GROUP - low / GROUP + 1);
 }
 
 // Whether a group of the block of slab i is raised.
@@ -69,7 +84,7 @@ pub fn some_raised(table: &[u8], i: usize) -> bool
     let first = place(i, 0, 0);
     let mut some = false;
     let mut n = 0usize;
-    while n < 4096 {
+    while n < BLOCK {
         some = some | (table[first + n] != 0);
         n += 1;
     }

@@ -32,9 +32,9 @@ fn scan_row(
     let all = r.r2;
     let mut walked = before;
     let mut g = 0usize;
-    while 16 * g < all {
-        let from = 16 * g;
-        let to = fill_walks::smaller(from + 16, all);
+    while fill_groups::GROUP * g < all {
+        let from = fill_groups::GROUP * g;
+        let to = fill_walks::smaller(from + fill_groups::GROUP, all);
         g += 1;
         if table[fill_groups::place(i, j, from)] == 0 {
             continue;
@@ -118,7 +118,7 @@ fn scan(l: &mut [u8], table: &mut [u8], p: Phase, r: Axes) -> usize
     let mut first = 0usize;
     let mut b = 0usize;
     while first < all {
-        let end = fill_walks::smaller(16 * b + 1, all);
+        let end = fill_walks::smaller(fill_groups::GROUP * b + 1, all);
         let slabs = Stretch {
             from: first,
             to: end,

@@ -134,7 +134,7 @@ pub struct LabelRange {
     pub high: u8,
 }
 
-// Which labels a call takes: those of one span and of the other.
+// Which labels a call takes: those of one range and of the other.
 pub struct LabelSet {
     pub one: LabelRange,
     pub other: LabelRange,

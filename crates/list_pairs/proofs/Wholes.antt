@@ -33,7 +33,7 @@ use Rattle.list.proofs.Rows.{rows-length, row-read, none, none-joined, listed-f
 use Rattle.list_tally.specs.Pairs.{joins, trianglesOf, triangleList, pairCount}
 use Rattle.list_lookup.specs.Lookup.{Table}
 use Rattle.list_rows.specs.Rows.{endAt, meets, Entered, Room}
-use Rattle.list_entries.specs.Entries.{allOf}
+use Rattle.list_hits.specs.Hits.{allOf}
 use Rattle.list_pairs.specs.Ranges.{endsBefore, RangesLaid}
 use Rattle.list_pairs.proofs.Layings.{sum-up}
 

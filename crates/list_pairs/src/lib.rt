@@ -37,7 +37,7 @@ fn lay_ranges(records: &mut [u32], n: usize)
 // ---- the call
 
 // Refusals 1 to 5 and 8 to 11.
-fn input_fault(ps: &[f32], ts: &[u32], r: Axes, placement: Placement, labels: &[u8]) -> Checked
+fn list_input_fault(ps: &[f32], ts: &[u32], r: Axes, placement: Placement, labels: &[u8]) -> Checked
     ensures { λ f. ⌜ f ≡ listInputFault (now (ps .entry)) (now (ts .entry)) r placement (now (labels .entry)) ⌝ }
 {
     let of_mesh = marking_checks::mesh_fault(ps, ts, r, placement, labels.len());
@@ -93,10 +93,10 @@ fn write_pairs(
         placing: true,
     };
     list::write_records(labels, r, records);
-    let guesses = list_entries::guesses(records, cells, r);
-    list_entries::enter_all(records, list, &guesses, ps, ts, laid, counting);
+    let guesses = list_hits::guesses(records, cells, r);
+    list_hits::enter_all(records, list, &guesses, ps, ts, laid, counting);
     lay_ranges(records, cells);
-    list_entries::enter_all(records, list, &guesses, ps, ts, laid, placing);
+    list_hits::enter_all(records, list, &guesses, ps, ts, laid, placing);
 }
 
 // Lists the cells 7 and 8 of a map, with the numbers of the triangles of each surface cell; or refuses
@@ -114,7 +114,7 @@ pub fn list_pairs(
     ensures { λ _. ⌜ now (records .exit) ≡ recordsBuffer (now (points .entry)) (now (triangles .entry)) r placement (now (labels .entry)) (now (records .entry)) (now (list .entry)) ⌝ }
     ensures { λ _. ⌜ now (list .exit) ≡ trianglesBuffer (now (points .entry)) (now (triangles .entry)) r placement (now (labels .entry)) (now (records .entry)) (now (list .entry)) ⌝ }
 {
-    match input_fault(points, triangles, r, placement, labels) {
+    match list_input_fault(points, triangles, r, placement, labels) {
         Checked::Fault(f) => Listing::Refused(f),
         Checked::Fine => {
             let cells = list::count_cells(labels, r);

@@ -12,11 +12,11 @@ use grid::Checked;
 // How many numbers a record has: i, j, k, surface, start, end, in this order.
 pub const WIDTH: usize = 6;
 
-const SURFACE: usize = 3;
+const SURFACE_AT: usize = 3;
 
-const START: usize = 4;
+const START_AT: usize = 4;
 
-const END: usize = 5;
+const END_AT: usize = 5;
 
 // A listed cell. `surface` is 1 for a cell 8 and 0 for a cell 7; its triangles are those of the list of
 // triangle numbers from `start` up to, not including, `end`.
@@ -38,9 +38,9 @@ pub fn read(records: &[u32], p: usize) -> CellRecord
     let k = records[at + 2] as usize;
     CellRecord {
         cell: Cell { i, j, k },
-        surface: records[at + SURFACE],
-        start: records[at + START],
-        end: records[at + END],
+        surface: records[at + SURFACE_AT],
+        start: records[at + START_AT],
+        end: records[at + END_AT],
     }
 }
 
@@ -54,9 +54,9 @@ pub fn write(records: &mut [u32], p: usize, e: CellRecord)
     records[at] = e.cell.i as u32;
     records[at + 1] = e.cell.j as u32;
     records[at + 2] = e.cell.k as u32;
-    records[at + SURFACE] = e.surface;
-    records[at + START] = e.start;
-    records[at + END] = e.end;
+    records[at + SURFACE_AT] = e.surface;
+    records[at + START_AT] = e.start;
+    records[at + END_AT] = e.end;
 }
 
 // Gives record p another range.
@@ -65,8 +65,8 @@ pub fn set_range(records: &mut [u32], p: usize, start: u32, end: u32)
     ensures { λ _. ⌜ PutRecord p (ranged start end (recordAt (now (records .entry)) p)) (now (records .entry)) (now (records .exit)) ⌝ }
 {
     let at = p * WIDTH;
-    records[at + START] = start;
-    records[at + END] = end;
+    records[at + START_AT] = start;
+    records[at + END_AT] = end;
 }
 
 // Whether a range falls back or passes the list.

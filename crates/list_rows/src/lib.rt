@@ -17,7 +17,7 @@ pub struct Round {
 }
 
 // A triangle that is entered at the records of its cells, in a round.
-pub struct Entry {
+pub struct Entrant {
     pub round: Round,
     pub triangle: u32,
 }
@@ -41,19 +41,19 @@ fn give(records: &mut [u32], list: &mut [u32], p: usize, e: CellRecord, t: u32, 
 pub fn enter_row(
     records: &mut [u32],
     list: &mut [u32],
-    entry: Entry,
+    entrant: Entrant,
     want: usize,
     past: usize,
     from: usize,
 )
-    requires { ⌜ Table (now records) (entry .round .cells) ⌝ }
-    requires { ⌜ Behind (now records) (entry .round .cells) want from × Ahead (now records) (entry .round .cells) want from ⌝ }
-    requires { ⌜ Room (entry .round .placing) (entry .round .cells) (gets (entry .triangle) (keyed want past) (now records)) (now records) (length (now list)) ⌝ }
-    ensures { λ _. ⌜ Entered (entry .round .placing) (entry .round .cells) (gets (entry .triangle) (keyed want past) (now (records .entry))) (now (records .entry)) (now (list .entry)) (now (records .exit)) (now (list .exit)) ⌝ }
+    requires { ⌜ Table (now records) (entrant .round .cells) ⌝ }
+    requires { ⌜ Behind (now records) (entrant .round .cells) want from × Ahead (now records) (entrant .round .cells) want from ⌝ }
+    requires { ⌜ Room (entrant .round .placing) (entrant .round .cells) (gets (entrant .triangle) (keyed want past) (now records)) (now records) (length (now list)) ⌝ }
+    ensures { λ _. ⌜ Entered (entrant .round .placing) (entrant .round .cells) (gets (entrant .triangle) (keyed want past) (now (records .entry))) (now (records .entry)) (now (list .entry)) (now (records .exit)) (now (list .exit)) ⌝ }
 {
-    let n = entry.round.cells;
-    let t = entry.triangle;
-    let placing = entry.round.placing;
+    let n = entrant.round.cells;
+    let t = entrant.triangle;
+    let placing = entrant.round.placing;
     let mut x = from;
     while x < n {
         let e = list_record::read(records, x);

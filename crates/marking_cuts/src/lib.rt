@@ -16,7 +16,7 @@ use touch::Bands;
 use touch::Three;
 
 // The step along an axis: a cell's side in units. To divide by a power of 2 that is known is to shift.
-const SIDE: usize = 256;
+const SIDE: usize = numbers::SIDE as usize;
 
 // The first place where a line of values step * x is above h.
 fn above(h: usize, step: usize) -> usize

@@ -184,10 +184,10 @@ pub fn by_size(points: &[f32], size: f32) -> Sized
 // ---- by resolution
 
 // Refusal 6 of a resolution.
-fn resolution_fault(r: u32) -> Checked
-    ensures { λ e. ⌜ e ≡ resolutionFault r ⌝ }
+fn resolution_fault(resolution: u32) -> Checked
+    ensures { λ e. ⌜ e ≡ resolutionFault resolution ⌝ }
 {
-    if (r < 2) | (254 < r) {
+    if (resolution < 2) | (254 < resolution) {
         return grid::fault(grid::BAD_RESOLUTION, 0);
     }
     Checked::Fine
@@ -226,27 +226,27 @@ fn extent_at(m: u8, dx: f32, dy: f32, dz: f32) -> f32
 }
 
 // A resolution, or one less, as a float.
-fn as_float(r: u32) -> f32
-    requires { ⌜ r ≤ 254 ⌝ }
-    ensures { λ f. ⌜ f ≡ asFloat r ⌝ }
+fn as_float(n: u32) -> f32
+    requires { ⌜ n ≤ 254 ⌝ }
+    ensures { λ f. ⌜ f ≡ asFloat n ⌝ }
 {
-    (r as u16) as f32
+    (n as u16) as f32
 }
 
 // The cells of the axis a, of extent d, where the main axis is m, of extent dmain.
-fn axis_by_resolution(r: u32, m: u8, a: u8, d: f32, dmain: f32) -> usize
-    requires { ⌜ r ≤ 254 ⌝ }
-    ensures { λ n. ⌜ n ≡ axisByResolution r m a d dmain ⌝ }
+fn axis_by_resolution(resolution: u32, m: u8, a: u8, d: f32, dmain: f32) -> usize
+    requires { ⌜ resolution ≤ 254 ⌝ }
+    ensures { λ n. ⌜ n ≡ axisByResolution resolution m a d dmain ⌝ }
 {
     if m == a {
-        return r as usize;
+        return resolution as usize;
     }
-    2 + cells_of(numbers::trunc(as_float(r) * d / dmain))
+    2 + cells_of(numbers::trunc(as_float(resolution) * d / dmain))
 }
 
-fn resolution_grid(s: Spans, r: u32) -> Sized
-    requires { ⌜ (2 ≤ r) × (r ≤ 254) ⌝ }
-    ensures { λ e. ⌜ outcome e ≡ resolutionGrid s r ⌝ }
+fn resolution_grid(s: Spans, resolution: u32) -> Sized
+    requires { ⌜ (2 ≤ resolution) × (resolution ≤ 254) ⌝ }
+    ensures { λ e. ⌜ outcome e ≡ resolutionGrid s resolution ⌝ }
 {
     let dx = s.x.hi - s.x.lo;
     let dy = s.y.hi - s.y.lo;
@@ -259,18 +259,24 @@ fn resolution_grid(s: Spans, r: u32) -> Sized
             place: 0,
         });
     }
-    let r0 = axis_by_resolution(r, m, 0, dx, dmain);
-    let r1 = axis_by_resolution(r, m, 1, dy, dmain);
-    let r2 = axis_by_resolution(r, m, 2, dz, dmain);
-    graded(Axes { r0, r1, r2 }, placed(s, dmain / as_float(r - 1)))
+    let r0 = axis_by_resolution(resolution, m, 0, dx, dmain);
+    let r1 = axis_by_resolution(resolution, m, 1, dy, dmain);
+    let r2 = axis_by_resolution(resolution, m, 2, dz, dmain);
+    graded(
+        Axes { r0, r1, r2 },
+        placed(s, dmain / as_float(resolution - 1)),
+    )
 }
 
-// The grid over the points whose main axis has r cells.
-pub fn by_resolution(points: &[f32], r: u32) -> Sized
-    ensures { λ e. ⌜ outcome e ≡ byResolution (now (points .entry)) r ⌝ }
+// The grid over the points whose main axis has so many cells.
+pub fn by_resolution(points: &[f32], resolution: u32) -> Sized
+    ensures { λ e. ⌜ outcome e ≡ byResolution (now (points .entry)) resolution ⌝ }
 {
-    match grid::and_then(sizing_points::points_fault(points), resolution_fault(r)) {
+    match grid::and_then(
+        sizing_points::points_fault(points),
+        resolution_fault(resolution),
+    ) {
         Checked::Fault(f) => Sized::Refused(f),
-        Checked::Fine => resolution_grid(spans_of(points), r),
+        Checked::Fine => resolution_grid(spans_of(points), resolution),
     }
 }

@@ -19,7 +19,7 @@ enum Family {
     Corridor,
 }
 
-struct Call {
+struct AskedEdit {
     cell: Cell,
     opening: bool,
 }
@@ -31,7 +31,7 @@ struct Spoilt {
 }
 
 // What one call did: whether it should be done or refused, and how much was not as it should be.
-struct Outcome {
+struct EditOutcome {
     done: bool,
     changed: u64,
     wrong: u64,
@@ -216,7 +216,7 @@ fn walked(labels: &mut [u8], r: Axes, c: Cell, x: &mut u64) -> Cell {
     let next = beside(c, way);
     let second = beside(next, way);
     let inner = 0 < depth(r, second);
-    let wall = label_of(labels, r, second) == 8;
+    let wall = label_of(labels, r, second) == grid::SURFACE;
     if !(seldom | (inner & wall)) {
         return c;
     }
@@ -261,7 +261,7 @@ fn first_bad(labels: &[u8]) -> usize {
     let mut i = 0usize;
     while i < n {
         let label = label_at(labels, i);
-        if (label < 6) | (8 < label) {
+        if (label < grid::OUTSIDE) | (grid::SURFACE < label) {
             return i;
         }
         i += 1;
@@ -273,7 +273,7 @@ fn cell_rule(labels: &[u8], r: Axes, c: Cell, opening: bool) -> Checked {
     if (r.r0 <= c.i) | (r.r1 <= c.j) | (r.r2 <= c.k) {
         return grid::fault(grid::OUT_OF_RANGE, 0);
     }
-    if (label_of(labels, r, c) == 8) != opening {
+    if (label_of(labels, r, c) == grid::SURFACE) != opening {
         return grid::fault(grid::WRONG_KIND, 0);
     }
     Checked::Fine
@@ -303,13 +303,17 @@ fn rule(labels: &[u8], r: Axes, c: Cell, opening: bool) -> Checked {
 fn surface_of(before: &[u8], map: &mut [u8], n: usize) {
     let mut i = 0usize;
     while i < n {
-        put(map, i, test_replay::label_if(label_at(before, i) == 8));
+        put(
+            map,
+            i,
+            test_replay::label_if(label_at(before, i) == grid::SURFACE),
+        );
         i += 1;
     }
 }
 
 // The flood of the surface cells as the call leaves them.
-fn fresh(map: &mut [u8], before: &[u8], n: usize, r: Axes, call: Call) {
+fn fresh(map: &mut [u8], before: &[u8], n: usize, r: Axes, call: AskedEdit) {
     surface_of(before, map, n);
     put(
         map,
@@ -341,28 +345,28 @@ fn is_other(a: Editing, b: Editing) -> bool {
     }
 }
 
-fn kept(labels: &[u8], before: &[u8], f: Refusal, answer: Editing) -> Outcome {
+fn kept(labels: &[u8], before: &[u8], f: Refusal, answer: Editing) -> EditOutcome {
     let other = is_other(answer, Editing::Refused(f));
-    Outcome {
+    EditOutcome {
         done: false,
         changed: 0,
         wrong: std::num::wrapping_add_u64(differing(labels, before), one_if(other)),
     }
 }
 
-fn done(labels: &[u8], before: &[u8], r: Axes, call: Call, answer: Editing) -> Outcome {
+fn done(labels: &[u8], before: &[u8], r: Axes, call: AskedEdit, answer: Editing) -> EditOutcome {
     let mut map = [0u8; 4096];
     fresh(&mut map, before, labels.len(), r, call);
     let changed = differing(labels, before);
     let other = is_other(answer, Editing::Changed(changed as usize));
-    Outcome {
+    EditOutcome {
         done: true,
         changed,
         wrong: std::num::wrapping_add_u64(differing(labels, &map), one_if(other)),
     }
 }
 
-fn compared(labels: &mut [u8], r: Axes, call: Call) -> Outcome {
+fn compared(labels: &mut [u8], r: Axes, call: AskedEdit) -> EditOutcome {
     let mut before = [0u8; 4096];
     copy(labels, &mut before);
     let ruled = rule(labels, r, call.cell, call.opening);
@@ -401,7 +405,7 @@ fn likely_cell(labels: &[u8], r: Axes, opening: bool, x: &mut u64) -> Cell {
     let mut tries = 0usize;
     while tries < 20 {
         let c = some_cell(r, x);
-        if (label_of(labels, r, c) == 8) == opening {
+        if (label_of(labels, r, c) == grid::SURFACE) == opening {
             return c;
         }
         tries += 1;
@@ -410,26 +414,26 @@ fn likely_cell(labels: &[u8], r: Axes, opening: bool, x: &mut u64) -> Cell {
 }
 
 // The last cell is often turned back, so that what was opened is sealed again and the reverse.
-fn some_call(labels: &[u8], r: Axes, last: Cell, x: &mut u64) -> Call {
+fn some_call(labels: &[u8], r: Axes, last: Cell, x: &mut u64) -> AskedEdit {
     let way = below(x, 60);
     let opening = below(x, 2) == 0;
     if way < 3 {
         let cell = off_grid(r, x);
-        return Call { cell, opening };
+        return AskedEdit { cell, opening };
     }
     if way < 21 {
-        let opening = label_of(labels, r, last) == 8;
-        return Call {
+        let opening = label_of(labels, r, last) == grid::SURFACE;
+        return AskedEdit {
             cell: last,
             opening,
         };
     }
     if way < 27 {
         let cell = some_cell(r, x);
-        return Call { cell, opening };
+        return AskedEdit { cell, opening };
     }
     let cell = likely_cell(labels, r, opening, x);
-    Call { cell, opening }
+    AskedEdit { cell, opening }
 }
 
 // ---- faults other than the cell's
@@ -469,7 +473,7 @@ fn faulty_length(fault: bool, n: usize, x: &mut u64) -> usize {
     n
 }
 
-fn cut(labels: &mut [u8], n: usize, r: Axes, call: Call) -> Outcome {
+fn cut(labels: &mut [u8], n: usize, r: Axes, call: AskedEdit) -> EditOutcome {
     let len = test_replay::at_most(n, labels.len());
     compared(&mut labels[..len], r, call)
 }
@@ -485,7 +489,13 @@ fn spoil(labels: &mut [u8], n: usize, x: &mut u64) -> Spoilt {
 }
 
 // With two bad labels, which may fall on one cell; the map gets its own back.
-fn with_bad_labels(labels: &mut [u8], n: usize, r: Axes, call: Call, x: &mut u64) -> Outcome {
+fn with_bad_labels(
+    labels: &mut [u8],
+    n: usize,
+    r: Axes,
+    call: AskedEdit,
+    x: &mut u64,
+) -> EditOutcome {
     let a = spoil(labels, n, x);
     let b = spoil(labels, n, x);
     let o = cut(labels, n, r, call);
@@ -495,7 +505,7 @@ fn with_bad_labels(labels: &mut [u8], n: usize, r: Axes, call: Call, x: &mut u64
 }
 
 // A call on the first n labels; seven in 64 have one fault or several, a bit for each.
-fn one_call(labels: &mut [u8], n: usize, r: Axes, call: Call, x: &mut u64) -> Outcome {
+fn one_call(labels: &mut [u8], n: usize, r: Axes, call: AskedEdit, x: &mut u64) -> EditOutcome {
     let some = below(x, 64);
     let faults = if some < 8 { some } else { 0 };
     let axes = faulty_axes(faults / 4 == 1, r, x);
@@ -508,7 +518,7 @@ fn one_call(labels: &mut [u8], n: usize, r: Axes, call: Call, x: &mut u64) -> Ou
 
 // ---- all calls
 
-fn add(t: Tally, opening: bool, o: Outcome) -> Tally {
+fn add(t: Tally, opening: bool, o: EditOutcome) -> Tally {
     Tally {
         calls: std::num::wrapping_add_u64(t.calls, 1),
         opened: std::num::wrapping_add_u64(t.opened, one_if(o.done & opening)),

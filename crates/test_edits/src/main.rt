@@ -36,12 +36,16 @@ struct Tally {
 fn label_of(kind: u32, x: u64, b: u32, c: u32) -> u8 {
     let v = x / 65536 % 256;
     if v < b as u64 {
-        return 8;
+        return grid::SURFACE;
     }
     if kind == 1 {
         return 0;
     }
-    if v < b as u64 + c as u64 { 7 } else { 6 }
+    if v < b as u64 + c as u64 {
+        grid::INSIDE
+    } else {
+        grid::OUTSIDE
+    }
 }
 
 // Kinds 1 and 3: a random number for each cell, from the seed a on.
@@ -91,7 +95,7 @@ fn way_at(labels: &[u8], n: usize) -> u32 {
     if labels.len() <= n {
         return 0;
     }
-    if labels[n] == 8 { 0 } else { 1 }
+    if labels[n] == grid::SURFACE { 0 } else { 1 }
 }
 
 // ---- what calls come to
@@ -153,9 +157,9 @@ fn report_one(e: Editing, labels: &[u8]) {
         Editing::Changed(n) => {
             test_replay::text(b"changed ");
             test_replay::number(n as u64);
-            test_replay::number(grid::count_label(labels, 6) as u64);
-            test_replay::number(grid::count_label(labels, 7) as u64);
-            test_replay::number(grid::count_label(labels, 8) as u64);
+            test_replay::number(grid::count_label(labels, grid::OUTSIDE) as u64);
+            test_replay::number(grid::count_label(labels, grid::INSIDE) as u64);
+            test_replay::number(grid::count_label(labels, grid::SURFACE) as u64);
         }
         Editing::Refused(f) => {
             test_replay::text(b"refused ");
@@ -444,15 +448,6 @@ fn pattern_case(s: &[u8], at: usize, len: usize, r: Axes) -> usize
     from + size
 }
 
-fn axes_of(s: &[u8], at: usize) -> Axes
-    requires { ⌜ at + 44 ≤ length (now s) ⌝ }
-{
-    let r0 = program_words::word(s, at + 4) as usize;
-    let r1 = program_words::word(s, at + 8) as usize;
-    let r2 = program_words::word(s, at + 12) as usize;
-    Axes { r0, r1, r2 }
-}
-
 // The case at a place; answers where the next begins, or the end.
 fn one_case(s: &[u8], at: usize) -> usize
     requires { ⌜ at + 44 ≤ length (now s) ⌝ }
@@ -460,7 +455,7 @@ fn one_case(s: &[u8], at: usize) -> usize
 {
     let kind = program_words::word(s, at);
     let n = test_replay::at_most(program_words::word(s, at + 16) as usize, 65536);
-    let r = axes_of(s, at);
+    let r = test_replay::axes_of(s, at + 4);
     if kind == 0 {
         return bits_case(s, at, n, r);
     }

@@ -71,9 +71,9 @@ fn report(f: Filling, labels: &[u8]) {
             test_replay::text(b"filled ");
             test_replay::number(c.scans as u64);
             test_replay::number(c.left as u64);
-            test_replay::number(grid::count_label(labels, 6) as u64);
-            test_replay::number(grid::count_label(labels, 7) as u64);
-            test_replay::number(grid::count_label(labels, 8) as u64);
+            test_replay::number(grid::count_label(labels, grid::OUTSIDE) as u64);
+            test_replay::number(grid::count_label(labels, grid::INSIDE) as u64);
+            test_replay::number(grid::count_label(labels, grid::SURFACE) as u64);
         }
         Filling::Refused(f) => {
             test_replay::text(b"refused ");
@@ -209,15 +209,6 @@ fn bytes_case(s: &[u8], from: usize, n: usize, r: Axes) -> usize
     from + size
 }
 
-fn axes_of(s: &[u8], at: usize) -> Axes
-    requires { ⌜ at + 28 ≤ length (now s) ⌝ }
-{
-    let r0 = program_words::word(s, at + 4) as usize;
-    let r1 = program_words::word(s, at + 8) as usize;
-    let r2 = program_words::word(s, at + 12) as usize;
-    Axes { r0, r1, r2 }
-}
-
 fn random_case(s: &[u8], at: usize, n: usize, r: Axes)
     requires { ⌜ (at + 28 ≤ length (now s)) × (n ≤ 65536) ⌝ }
 {
@@ -233,7 +224,7 @@ fn one_case(s: &[u8], at: usize) -> usize
 {
     let kind = program_words::word(s, at);
     let n = test_replay::at_most(program_words::word(s, at + 16) as usize, 65536);
-    let r = axes_of(s, at);
+    let r = test_replay::axes_of(s, at + 4);
     if kind == 0 {
         return bits_case(s, at + 28, n, r);
     }

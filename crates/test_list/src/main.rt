@@ -29,7 +29,10 @@ fn show(a: Listing, records: &[u32], list: &[u32]) {
             test_replay::text(b"listed ");
             test_replay::number(c.cells as u64);
             test_replay::number(c.pairs as u64);
-            test_replay::show_words(records, test_replay::at_most(c.cells, 196620) * 6);
+            test_replay::show_words(
+                records,
+                test_replay::at_most(c.cells, 196620) * list_record::WIDTH,
+            );
             test_replay::show_words(list, c.pairs);
         }
         Listing::Refused(f) => test_replay::refused(f),

@@ -58,7 +58,7 @@ fn report(m: Marking, labels: &[u8]) {
     match m {
         Marking::Marked => {
             test_replay::text(b"marked ");
-            test_replay::number(grid::count_label(labels, 8) as u64);
+            test_replay::number(grid::count_label(labels, grid::SURFACE) as u64);
         }
         Marking::Refused(f) => {
             test_replay::text(b"refused ");
@@ -81,32 +81,6 @@ fn marked(points: &[f32], triangles: &[u32], r: Axes, at: Placement, len: usize)
     mark_and_report(points, triangles, r, at, &mut labels[..n]);
 }
 
-fn axes_of(s: &[u8], at: usize) -> Axes
-    requires { ⌜ at + 44 ≤ length (now s) ⌝ }
-{
-    let r0 = program_words::word(s, at + 8) as usize;
-    let r1 = program_words::word(s, at + 12) as usize;
-    let r2 = program_words::word(s, at + 16) as usize;
-    Axes { r0, r1, r2 }
-}
-
-fn placement_of(s: &[u8], at: usize) -> Placement
-    requires { ⌜ at + 44 ≤ length (now s) ⌝ }
-{
-    let x = program_words::float_of(program_words::word(s, at + 20));
-    let y = program_words::float_of(program_words::word(s, at + 24));
-    let z = program_words::float_of(program_words::word(s, at + 28));
-    let scale = program_words::float_of(program_words::word(s, at + 32));
-    let reciprocal = program_words::float_of(program_words::word(s, at + 36));
-    Placement {
-        x,
-        y,
-        z,
-        scale,
-        reciprocal,
-    }
-}
-
 fn long_case(s: &[u8], at: usize, p: usize, t: usize)
     requires { ⌜ at + 44 ≤ length (now s) ⌝ }
 {
@@ -114,8 +88,8 @@ fn long_case(s: &[u8], at: usize, p: usize, t: usize)
     let triangles = zeros();
     let np = test_replay::at_most(p, 196620);
     let nt = test_replay::at_most(t, 196620);
-    let r = axes_of(s, at);
-    let place = placement_of(s, at);
+    let r = test_replay::axes_of(s, at + 8);
+    let place = test_replay::placement_of(s, at + 20);
     marked(
         &points[..np],
         &triangles[..nt],
@@ -131,8 +105,8 @@ fn stored_case(s: &[u8], at: usize, p: usize, t: usize)
     let from = at + 44;
     let points = floats(s, from, p);
     let triangles = words(s, from + 4 * p, t);
-    let r = axes_of(s, at);
-    let place = placement_of(s, at);
+    let r = test_replay::axes_of(s, at + 8);
+    let place = test_replay::placement_of(s, at + 20);
     marked(
         &points[..p],
         &triangles[..t],

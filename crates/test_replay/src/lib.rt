@@ -136,7 +136,11 @@ pub fn sized(s: Sized) {
 
 // A mark.
 pub fn label_if(surface: bool) -> u8 {
-    if surface { 8 } else { 0 }
+    if surface {
+        grid::SURFACE
+    } else {
+        grid::UNDEFINED
+    }
 }
 
 fn bit(byte: u8, n: usize) -> bool {

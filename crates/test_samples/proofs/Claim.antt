@@ -6,7 +6,7 @@ use Rattle.grid.specs.First.{firstNot, someBelow}
 use Rattle.grid.specs.Grid.{firstOnes}
 use Rattle.sizing.specs.Points.{bounded}
 use Rattle.sizing.specs.Sizing.{spansTo, natural}
-use Rattle.touch.specs.Touch.{dotZ, edge, cross, reach, apart, someApart, touching}
+use Rattle.touch.specs.Touch.{dotZ, edge, cross, cubeReach, apart, someApart, touching}
 use Rattle.marking_mesh.specs.Mesh.{wholeUnits, unitsAt, onAxis, isCandidate}
 use Rattle.marking.specs.Marked.{hits}
 use Rattle.order.specs.Order.{row, rows, slabs, keep, chosen, joinAll}
@@ -18,5 +18,5 @@ use Rattle.test_samples.proofs.Printed.{three-printed}
 use Rattle.test_samples.proofs.Hatch.{hatch-opened, hatch-closed, centre-refused}
 
 pub samples : All table
-unfolding firstNot someBelow firstOnes bounded spansTo natural ceilOf truncOf nearestOf wholeUnits unitsAt onAxis isCandidate dotZ edge cross reach apart someApart touching hits row rows slabs keep chosen joinAll numbersOf recordsFrom lt le eq sub mul div ofInt
+unfolding firstNot someBelow firstOnes bounded spansTo natural ceilOf truncOf nearestOf wholeUnits unitsAt onAxis isCandidate dotZ edge cross cubeReach apart someApart touching hits row rows slabs keep chosen joinAll numbersOf recordsFrom lt le eq sub mul div ofInt
 samples = (refl, (refl, (refl, (refl, ((refl, refl), ((refl, refl), (refl, (refl, ((refl, refl), (marked-filled, ((refl, refl, refl), (three-printed, (box-flood, (box-cavities, (cube-flood, (cube-cavities, (hatch-opened, (hatch-closed, (centre-refused, tt)))))))))))))))))))

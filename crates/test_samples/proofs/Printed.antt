@@ -11,7 +11,7 @@ use Rattle.grid.specs.First.{firstNot, someBelow}
 use Rattle.grid.specs.Grid.{firstOnes}
 use Rattle.sizing.specs.Points.{bounded}
 use Rattle.sizing.specs.Sizing.{spansTo, natural}
-use Rattle.touch.specs.Touch.{dotZ, edge, cross, reach, apart, someApart, touching}
+use Rattle.touch.specs.Touch.{dotZ, edge, cross, cubeReach, apart, someApart, touching}
 use Rattle.marking_mesh.specs.Mesh.{wholeUnits, unitsAt, onAxis, isCandidate}
 use Rattle.marking.specs.Marked.{hits, markedLabels}
 use Rattle.fill.specs.declared.Mode.the-variants.{Flood}
@@ -22,7 +22,7 @@ use Rattle.program_reader.specs.Reading.{Reads, Read}
 use Rattle.program_text.specs.Text.{decimalIn}
 use Rattle.program_summary.specs.declared.Summary.{Summary}
 use Rattle.program_summary.specs.Summary.{laidOf, summaryOf, Tallied, Mapped, Sums, Summarizes}
-use Rattle.test_samples.specs.Table.{Holds, printing, f, axes, lies, laid, counts, threePoints, twoTriangles, recordsOfThree, printedOfThree}
+use Rattle.test_samples.specs.Table.{Holds, printing, f, axes, laidWith, laid, counts, threePoints, twoTriangles, recordsOfThree, printedOfThree}
 use Rattle.test_samples.proofs.Filled.{marked-filled}
 
 -- the reading
@@ -31,8 +31,8 @@ unfolding wordAt ofBits ofFields odd
 three-read = Read.headed refl (Reads.point refl (Reads.point refl (Reads.point refl (Reads.triangle refl (Reads.triangle refl (Reads.end refl))))))
 
 -- the marks, and the map
-three-marked : markedLabels threePoints twoTriangles (axes 3 3 3) (lies (axes 3 3 3) (f 1) (f 1) .placement) ≡ 8 ∷ 8 ∷ replicate 25 0
-unfolding firstOnes someBelow bounded wholeUnits unitsAt onAxis isCandidate dotZ edge cross reach apart someApart touching hits nearestOf lt le eq sub mul div ofInt
+three-marked : markedLabels threePoints twoTriangles (axes 3 3 3) (laidWith (axes 3 3 3) (f 1) (f 1) .placement) ≡ 8 ∷ 8 ∷ replicate 25 0
+unfolding firstOnes someBelow bounded wholeUnits unitsAt onAxis isCandidate dotZ edge cross cubeReach apart someApart touching hits nearestOf lt le eq sub mul div ofInt
 three-marked = refl
 
 abbrev said : Outcome Summary

@@ -64,8 +64,8 @@ All (s ∷ ss) = Holds s × All ss
 abbrev pub f : ℕ → Float
 f n = fin false n (pos 0)
 
-abbrev pub part : ℕ → ℕ → Float
-part n k = fin false n (negsuc k)
+abbrev pub fraction : ℕ → ℕ → Float
+fraction n k = fin false n (negsuc k)
 
 -- 2, 4 and 30
 abbrev pub two : Float
@@ -78,21 +78,21 @@ abbrev pub thirty : Float
 thirty = fin false 15 (pos 1)
 
 -- the origin and one corner
-abbrev pub corner : Float → Float → Float → List Float
-corner x y z = f 0 ∷ f 0 ∷ f 0 ∷ x ∷ y ∷ z ∷ []
+abbrev pub fromOrigin : Float → Float → Float → List Float
+fromOrigin x y z = f 0 ∷ f 0 ∷ f 0 ∷ x ∷ y ∷ z ∷ []
 
 abbrev pub axes : ℕ → ℕ → ℕ → Axes
 axes a b c = record { r0 = a; r1 = b; r2 = c }
 
-abbrev pub lies : Axes → Float → Float → Laid
-lies a scale reciprocal = record { axes = a; placement = record { x = f 0; y = f 0; z = f 0; scale = scale; reciprocal = reciprocal } }
+abbrev pub laidWith : Axes → Float → Float → Laid
+laidWith a scale reciprocal = record { axes = a; placement = record { x = f 0; y = f 0; z = f 0; scale = scale; reciprocal = reciprocal } }
 
 abbrev pub laid : Axes → Float → Float → Outcome Laid
-laid a scale reciprocal = answers (lies a scale reciprocal)
+laid a scale reciprocal = answers (laidWith a scale reciprocal)
 
 -- the points (0, 0, 0), (2, 2, 2) and (0.5, 0, 0); the triangles (2, 2, 2) and (0, 0, 0)
 abbrev pub threePoints : List Float
-threePoints = f 0 ∷ f 0 ∷ f 0 ∷ two ∷ two ∷ two ∷ part 1 0 ∷ f 0 ∷ f 0 ∷ []
+threePoints = f 0 ∷ f 0 ∷ f 0 ∷ two ∷ two ∷ two ∷ fraction 1 0 ∷ f 0 ∷ f 0 ∷ []
 
 abbrev pub twoTriangles : List ℕ
 twoTriangles = 2 ∷ 2 ∷ 2 ∷ 0 ∷ 0 ∷ 0 ∷ []
@@ -175,17 +175,17 @@ cell i j k = record { i = i; j = j; k = k }
 -- "That map: open (1,2,2), 2 changed; close it, 2 changed and the map is back. Opening the centre: 13."
 abbrev pub table : List Sample
 table =
-    by-size (corner thirty (f 0) (f 0)) (part 3 0) (laid (axes 21 3 3) (part 3 0) (part 11184811 23))
-    ∷ by-size (corner thirty (f 0) (f 0)) (f 15) (laid (axes 3 3 3) (f 15) (part 8947849 26))
-    ∷ by-resolution (corner four two (f 1)) 10 (laid (axes 10 7 4) (part 14913081 24) (part 9 1))
-    ∷ by-resolution (corner two two (f 1)) 4 (laid (axes 4 6 4) (part 11184811 23) (part 3 0))
-    ∷ rounding (part 1 1) (pos 64) (pos 0)
-    ∷ rounding (part 1 0) (pos 128) (pos 1)
+    by-size (fromOrigin thirty (f 0) (f 0)) (fraction 3 0) (laid (axes 21 3 3) (fraction 3 0) (fraction 11184811 23))
+    ∷ by-size (fromOrigin thirty (f 0) (f 0)) (f 15) (laid (axes 3 3 3) (f 15) (fraction 8947849 26))
+    ∷ by-resolution (fromOrigin four two (f 1)) 10 (laid (axes 10 7 4) (fraction 14913081 24) (fraction 9 1))
+    ∷ by-resolution (fromOrigin two two (f 1)) 4 (laid (axes 4 6 4) (fraction 11184811 23) (fraction 3 0))
+    ∷ rounding (fraction 1 1) (pos 64) (pos 0)
+    ∷ rounding (fraction 1 0) (pos 128) (pos 1)
     ∷ numbered (axes 3 3 3) (cell 1 2 0) 7
     ∷ by-size threePoints (f 1) (laid (axes 3 3 3) (f 1) (f 1))
-    ∷ marking threePoints twoTriangles (lies (axes 3 3 3) (f 1) (f 1)) (replicate 27 7) (8 ∷ 8 ∷ replicate 25 0)
+    ∷ marking threePoints twoTriangles (laidWith (axes 3 3 3) (f 1) (f 1)) (replicate 27 7) (8 ∷ 8 ∷ replicate 25 0)
     ∷ filling (axes 3 3 3) Flood (8 ∷ 8 ∷ replicate 25 0) (counts 2 0) (8 ∷ 8 ∷ replicate 25 6) 25 0
-    ∷ listing threePoints twoTriangles (lies (axes 3 3 3) (f 1) (f 1)) (8 ∷ 8 ∷ replicate 25 6) 2 3 twoRecords (0 ∷ 1 ∷ 0 ∷ [])
+    ∷ listing threePoints twoTriangles (laidWith (axes 3 3 3) (f 1) (f 1)) (8 ∷ 8 ∷ replicate 25 6) 2 3 twoRecords (0 ∷ 1 ∷ 0 ∷ [])
     ∷ printing recordsOfThree printedOfThree
     ∷ filling (axes 3 3 3) Flood (box 8 0) (counts 1 0) (box 8 7) 0 1
     ∷ filling (axes 3 3 3) Cavities (box 8 0) (counts 2 1) (box 8 0) 0 0

@@ -109,8 +109,8 @@ fn fill_and_show(labels: &mut [u8], r: Axes, mode: Mode, layer: usize)
         Filling::Filled(n) => {
             test_replay::number(n.scans as u64);
             test_replay::number(n.left as u64);
-            test_replay::number(grid::count_label(labels, 6) as u64);
-            test_replay::number(grid::count_label(labels, 7) as u64);
+            test_replay::number(grid::count_label(labels, grid::OUTSIDE) as u64);
+            test_replay::number(grid::count_label(labels, grid::INSIDE) as u64);
             test_replay::text(b"\n");
             show(labels, layer);
         }
@@ -194,8 +194,8 @@ fn lists(labels: &[u8]) {
 // The map of `marks`, two cells of 3 by 3 by 3, and its list.
 fn two_cells(mode: Mode) {
     let mut labels = [0u8; 27];
-    labels[0] = 8;
-    labels[1] = 8;
+    labels[0] = grid::SURFACE;
+    labels[1] = grid::SURFACE;
     fill_and_show(&mut labels, three_axes(), mode, 9);
     lists(&labels);
 }
@@ -203,7 +203,7 @@ fn two_cells(mode: Mode) {
 // 3 by 3 by 3, all but the centre marked.
 fn three(mode: Mode) {
     let mut labels = [8u8; 27];
-    labels[13] = 0;
+    labels[13] = grid::UNDEFINED;
     fill_and_show(&mut labels, three_axes(), mode, 9);
 }
 
@@ -214,7 +214,11 @@ fn between(n: usize) -> bool {
 
 fn marked_about_the_centre(n: usize) -> u8 {
     let near = between(n % 5) & between(n / 5 % 5) & between(n / 25);
-    if near & (n != 62) { 8 } else { 0 }
+    if near & (n != 62) {
+        grid::SURFACE
+    } else {
+        grid::UNDEFINED
+    }
 }
 
 // Those points and triangles as an input of the program: a head, three points, two triangles and the

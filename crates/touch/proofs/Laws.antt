@@ -21,7 +21,7 @@ use Rattle.ints.specs.Ring.{ap3, mul-assoc}
 use Rattle.touch.specs.declared.Band.{Band}
 use Rattle.touch.specs.declared.Bands.{Bands}
 use Rattle.touch.specs.declared.Three.{Three}
-use Rattle.touch.specs.Touch.{along, vertex, centre, dotZ, reach, edge, cross, axisX, axisY, axisZ, axes, edgeOf, normal, withAxes, allAbove, allBelow, apart, someApart, touching}
+use Rattle.touch.specs.Touch.{along, vertex, centre, dotZ, cubeReach, edge, cross, axisX, axisY, axisZ, axes, edgeOf, normal, withAxes, allAbove, allBelow, apart, someApart, touching}
 use Rattle.touch.specs.Bands.{bandOf, threeOf, productsOf, bandsOf, kept, keptThree, keptAll, VertexFits, TriangleFits, EdgeFits, DirectionFits, BandFits, ThreeFit, Axial, Crosswise, BandsFit, CoordinatesFit, CellFits}
 
 -- ---- ranges
@@ -30,8 +30,8 @@ pub dot-in : {d v : List ℤ} → DirectionFits d → VertexFits v → In 432345
 unfolding dotZ
 dot-in h k = in-add (in-add (in-mul (h .at 0) (k .at 0)) (in-mul (h .at 1) (k .at 1))) (in-mul (h .at 2) (k .at 2))
 
-pub reach-in : {d : List ℤ} → DirectionFits d → In 844424930131968 (reach d)
-unfolding reach
+pub reach-in : {d : List ℤ} → DirectionFits d → In 844424930131968 (cubeReach d)
+unfolding cubeReach
 reach-in h = in-up 844424930131968 tt (in-mul (in-lit half (pos half) tt) (in-add (in-add (in-abs (h .at 0)) (in-abs (h .at 1))) (in-abs (h .at 2))))
 
 pub edge-in : {a b : List ℤ} → VertexFits a → VertexFits b → EdgeFits (edge a b)
@@ -188,7 +188,7 @@ kept-is d t c =
     let e = dotZ d (vertex t 2) in
     let low = lesser (lesser a b) e in
     let high = greater (greater a b) e in
-    let r = reach d in
+    let r = cubeReach d in
     rw (at-centre d c)
     (ap (λ (x : Bool). x && leZ m (high +ℤ r)) (le-not (low -ℤ r) m ∙ ap not (lt-more low r m ∙ sym (above-test (m +ℤ r) a b e)))
     ∙ ap (λ (x : Bool). not (allAbove (m +ℤ r) a b e) && x) (le-not m (high +ℤ r) ∙ ap not (lt-less high r m ∙ sym (below-test (m -ℤ r) a b e)))

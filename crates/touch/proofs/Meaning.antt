@@ -18,7 +18,7 @@ use Rattle.ints.specs.Differences as Differences
 use Rattle.ints.specs.Differences.{up, down, neg-pos, add-sub, lt-sub, before-face, past-face}
 use Rattle.grid.specs.declared.Cell.{Cell}
 use Rattle.numbers.specs.Rounding.{units, half, floorZ, cellOf}
-use Rattle.touch.specs.Touch.{along, vertex, centre, InCube, dotZ, Separates, above, below, edge, directions, absZ, reach, apart, someApart, touching}
+use Rattle.touch.specs.Touch.{along, vertex, centre, InCube, dotZ, Separates, above, below, edge, directions, absZ, cubeReach, apart, someApart, touching}
 
 -- ---- tests: one of two, neither of two, all of three
 
@@ -126,14 +126,14 @@ module _ (d : List ℤ) where
   steps f = f (along d 0) ∷ f (along d 1) ∷ f (along d 2) ∷ []
 
   -- steps to where d points come as far as the reach
-  toward-reach : dotZ d (steps toward) ≡ reach d
-  unfolding dotZ steps reach
+  toward-reach : dotZ d (steps toward) ≡ cubeReach d
+  unfolding dotZ steps cubeReach
   toward-reach =
       let x = along d 0 in let y = along d 1 in let z = along d 2 in
       ap3 (toward-is x) (toward-is y) (toward-is z) ∙ sym (mul3 (pos half) (absZ x) (absZ y) (absZ z))
 
   -- and steps against it as far the other way
-  against-reach : dotZ d (steps against) ≡ negℤ (reach d)
+  against-reach : dotZ d (steps against) ≡ negℤ (cubeReach d)
   unfolding dotZ steps against
   against-reach =
       let x = along d 0 in let y = along d 1 in let z = along d 2 in
@@ -141,8 +141,8 @@ module _ (d : List ℤ) where
 
   module _ (c : Cell) where
     -- no point of the cube lies further from the centre than the reach
-    cube-in : (p : List ℤ) → InCube c p → In (natAbs (reach d)) (dotZ d (edge (centre c) p))
-    unfolding dotZ edge reach
+    cube-in : (p : List ℤ) → InCube c p → In (natAbs (cubeReach d)) (dotZ d (edge (centre c) p))
+    unfolding dotZ edge cubeReach
     cube-in p h =
         let e = edge (centre c) p in
         let m = in-add (in-add (step-in (along d 0) (along e 0) (h .on-i)) (step-in (along d 1) (along e 1) (h .on-j))) (step-in (along d 2) (along e 2) (h .on-k)) in
@@ -173,7 +173,7 @@ module _ (d : List ℤ) where
 
       -- exactly if they lie beyond the corner at e, where what lies beyond e lies beyond all that is within the reach
       beyond : (far : ℤ → ℤ → Bool) (f : ℤ → ℤ) (e : ℤ) → ((k : ℤ) → natAbs (f k) ≤ half) → dotZ d (steps f) ≡ e
-          → ((s v : ℤ) → In (natAbs (reach d)) s → T (far (dotZ d (centre c) +ℤ e) v) → T (far (dotZ d (centre c) +ℤ s) v))
+          → ((s v : ℤ) → In (natAbs (cubeReach d)) s → T (far (dotZ d (centre c) +ℤ e) v) → T (far (dotZ d (centre c) +ℤ s) v))
           → ((n : ℕ) → n < 3 → T (far (dotZ d (centre c) +ℤ e) (dotZ d (vertex t n)))) ↔ Beyond far
       beyond far f e h is wide = (
         (λ g p i n l. rw (dot-edge (centre c) p) (wide (dotZ d (edge (centre c) p)) (dotZ d (vertex t n)) (cube-in p i) (g n l))),
@@ -190,13 +190,13 @@ module _ (d : List ℤ) where
 
 -- a direction separates a triangle from a cell exactly if the test says so
 pub separation : (d : List ℤ) (t : List (List ℤ)) (c : Cell) → T (apart d t c) ↔ Separates d t c
-unfolding apart reach against
+unfolding apart cubeReach against
 separation d t c =
     let z = dotZ d (centre c) in
-    let r = natAbs (reach d) in
-    either d c t (λ n. ltZ (z +ℤ reach d) (dotZ d (vertex t n))) (λ n. ltZ (dotZ d (vertex t n)) (z -ℤ reach d))
-    (beyond d c t ltZ toward (reach d) toward-in (toward-reach d) (over z r))
-    (beyond d c t (λ a b. ltZ b a) against (negℤ (reach d)) (λ k. rw (abs-neg (toward k)) (toward-in k)) (against-reach d) (under z r))
+    let r = natAbs (cubeReach d) in
+    either d c t (λ n. ltZ (z +ℤ cubeReach d) (dotZ d (vertex t n))) (λ n. ltZ (dotZ d (vertex t n)) (z -ℤ cubeReach d))
+    (beyond d c t ltZ toward (cubeReach d) toward-in (toward-reach d) (over z r))
+    (beyond d c t (λ a b. ltZ b a) against (negℤ (cubeReach d)) (λ k. rw (abs-neg (toward k)) (toward-in k)) (against-reach d) (under z r))
 
 -- ---- none of the thirteen directions separates
 

@@ -12,7 +12,7 @@ use Rattle.ints.specs.Order.{lesser, greater}
 use Rattle.touch.specs.declared.Band.{Band}
 use Rattle.touch.specs.declared.Three.{Three}
 use Rattle.touch.specs.declared.Bands.{Bands}
-use Rattle.touch.specs.Touch.{along, vertex, dotZ, reach, cross, axisX, axisY, axisZ, normal, edgeOf}
+use Rattle.touch.specs.Touch.{along, vertex, dotZ, cubeReach, cross, axisX, axisY, axisZ, normal, edgeOf}
 
 -- of a direction d: from the least projection less the reach to the greatest and the reach
 unfoldable pub bandOf : List ℤ → List (List ℤ) → Band
@@ -21,8 +21,8 @@ bandOf d t =
       x = pos units *ℤ along d 0;
       y = pos units *ℤ along d 1;
       z = pos units *ℤ along d 2;
-      low = lesser (lesser (dotZ d (vertex t 0)) (dotZ d (vertex t 1))) (dotZ d (vertex t 2)) -ℤ reach d;
-      high = greater (greater (dotZ d (vertex t 0)) (dotZ d (vertex t 1))) (dotZ d (vertex t 2)) +ℤ reach d;
+      low = lesser (lesser (dotZ d (vertex t 0)) (dotZ d (vertex t 1))) (dotZ d (vertex t 2)) -ℤ cubeReach d;
+      high = greater (greater (dotZ d (vertex t 0)) (dotZ d (vertex t 1))) (dotZ d (vertex t 2)) +ℤ cubeReach d;
     }
 
 abbrev pub threeOf : List ℤ → List ℤ → List ℤ → List (List ℤ) → Three

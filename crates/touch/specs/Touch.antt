@@ -83,8 +83,8 @@ directions t = axes ++ (normal t ∷ []) ++ withAxes (edgeOf t 0 1) ++ withAxes 
 abbrev pub absZ : ℤ → ℤ
 absZ z = pos (natAbs z)
 
-unfoldable pub reach : List ℤ → ℤ
-reach d = pos half *ℤ (absZ (along d 0) +ℤ absZ (along d 1) +ℤ absZ (along d 2))
+unfoldable pub cubeReach : List ℤ → ℤ
+cubeReach d = pos half *ℤ (absZ (along d 0) +ℤ absZ (along d 1) +ℤ absZ (along d 2))
 
 -- three numbers are all above a number, or all below it
 abbrev pub allAbove : ℤ → ℤ → ℤ → ℤ → Bool
@@ -96,8 +96,8 @@ allBelow z a b c = ltZ a z && ltZ b z && ltZ c z
 -- the vertices' projections lie all above the cube's greatest, or all below its least
 unfoldable pub apart : List ℤ → List (List ℤ) → Cell → Bool
 apart d t c =
-    allAbove (dotZ d (centre c) +ℤ reach d) (dotZ d (vertex t 0)) (dotZ d (vertex t 1)) (dotZ d (vertex t 2))
-    || allBelow (dotZ d (centre c) -ℤ reach d) (dotZ d (vertex t 0)) (dotZ d (vertex t 1)) (dotZ d (vertex t 2))
+    allAbove (dotZ d (centre c) +ℤ cubeReach d) (dotZ d (vertex t 0)) (dotZ d (vertex t 1)) (dotZ d (vertex t 2))
+    || allBelow (dotZ d (centre c) -ℤ cubeReach d) (dotZ d (vertex t 0)) (dotZ d (vertex t 1)) (dotZ d (vertex t 2))
 
 -- some direction of a list separates
 unfoldable pub someApart : List (List ℤ) → List (List ℤ) → Cell → Bool

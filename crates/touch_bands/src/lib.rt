@@ -3,7 +3,7 @@ ghost use mathlib.Core.Path.{_≡_};
 ghost use Prim.Native.Nat.{_^_};
 ghost use lib.IntN.{pos, natAbs};
 ghost use Rattle.ints.specs.Bound.{In};
-ghost use Rattle.touch.specs.Touch.{dotZ, reach, edge, cross, axisX, axisY, axisZ, normal, touching};
+ghost use Rattle.touch.specs.Touch.{dotZ, cubeReach, edge, cross, axisX, axisY, axisZ, normal, touching};
 ghost use Rattle.touch.specs.Bands.{bandOf, threeOf, productsOf, bandsOf, DirectionFits, EdgeFits, VertexFits, TriangleFits, CellFits};
 use grid::Cell;
 use touch::Band;
@@ -27,9 +27,9 @@ fn dot(d: [i64; 3], v: [i64; 3]) -> i64
 }
 
 // How far a cell's cube reaches from its centre on d.
-fn span(d: [i64; 3]) -> i64
+fn cube_reach(d: [i64; 3]) -> i64
     requires { ⌜ DirectionFits d ⌝ }
-    ensures { λ r. ⌜ r ≡ reach d ⌝ }
+    ensures { λ r. ⌜ r ≡ cubeReach d ⌝ }
 {
     numbers::HALF * (abs(d[0]) + abs(d[1]) + abs(d[2]))
 }
@@ -43,7 +43,7 @@ fn band_along(d: [i64; 3], t: [[i64; 3]; 3]) -> Band
     let a = dot(d, t[0]);
     let b = dot(d, t[1]);
     let c = dot(d, t[2]);
-    let r = span(d);
+    let r = cube_reach(d);
     Band {
         x: numbers::SIDE * d[0],
         y: numbers::SIDE * d[1],

@@ -19,7 +19,7 @@ use native.Mathlib.Omega.{arith}
 
 -- the first checks found nothing
 fine : (c : tie.After-enum-told) → listInputFault (c .before .before .before .before .before .before .before .before .args .points .now) (c .before .before .before .before .before .before .before .before .args .triangles .now) (c .before .before .before .before .before .before .before .before .args .r) (c .before .before .before .before .before .before .before .before .args .placement) (c .before .before .before .before .before .before .before .before .args .labels .now) ≡ Fine
-fine c = sym (c .before .before .input-fault .ensures) ∙ c .enum-told .given .1
+fine c = sym (c .before .before .list-input-fault .ensures) ∙ c .enum-told .given .1
 
 ready : (c : tie.After-enum-told) → Ready (c .before .before .before .before .before .before .before .before .args .points .now) (c .before .before .before .before .before .before .before .before .args .triangles .now) (c .before .before .before .before .before .before .before .before .args .r) (c .before .before .before .before .before .before .before .before .args .placement) × Sheet (c .before .before .before .before .before .before .before .before .args .r) (c .before .before .before .before .before .before .before .before .args .labels .now)
 ready c = let a = c .before .before .before .before .before .before .before .before .args in input-ready (a .points .now) (a .triangles .now) (a .r) (a .placement) (a .labels .now) (fine c)
@@ -28,8 +28,8 @@ ready c = let a = c .before .before .before .before .before .before .before .bef
 rooms : (c : tie.After-rooms-fault) → c .rooms-fault .result ≡ roomsFault (length (listed (c .before .before .before .before .before .before .before .before .before .before .before .args .r) (c .before .before .before .before .before .before .before .before .before .before .before .args .labels .now))) (pairCount (c .before .before .before .before .before .before .before .before .before .before .before .args .points .now) (c .before .before .before .before .before .before .before .before .before .before .before .args .triangles .now) (c .before .before .before .before .before .before .before .before .before .before .before .args .r) (c .before .before .before .before .before .before .before .before .before .before .before .args .placement) (c .before .before .before .before .before .before .before .before .before .before .before .args .labels .now)) (length (c .before .before .before .before .before .before .before .before .before .before .before .args .records .now)) (length (c .before .before .before .before .before .before .before .before .before .before .before .args .list .now))
 rooms c = let a = c .before .before .before .before .before .before .before .before .before .before .before .args in c .rooms-fault .ensures ∙ (λ i. roomsFault (c .before .before .count-cells .ensures .0 i) (c .before .count-pairs .ensures i) (length (a .records .now)) (length (a .list .now)))
 
-input-fault-requires : tie.Need-input-fault-requires
-input-fault-requires c κs = search needs
+list-input-fault-requires : tie.Need-list-input-fault-requires
+list-input-fault-requires c κs = search needs
 
 enum-known-f : tie.Need-enum-known-f
 enum-known-f c = search needs
@@ -60,7 +60,7 @@ write-pairs-requires c κs =
 returns : tie.Need-returns
 returns c =
     let a = c .before .before .before .before .before .before .before .before .before .args in let ps = a .points .now in let ts = a .triangles .now in let l = a .labels .now in let o = a .records .now in let q = a .list .now in
-    let e = then-first (listInputFault ps ts (a .r) (a .placement) l) (roomsFault (length (listed (a .r) l)) (pairCount ps ts (a .r) (a .placement) l) (length o) (length q)) _ (sym (c .before .f .given .1) ∙ c .before .before .before .input-fault .ensures) in
+    let e = then-first (listInputFault ps ts (a .r) (a .placement) l) (roomsFault (length (listed (a .r) l)) (pairCount ps ts (a .r) (a .placement) l) (length o) (length q)) _ (sym (c .before .f .given .1) ∙ c .before .before .before .list-input-fault .ensures) in
     (ap (λ (x : Checked). unless x (answers (countsOf ps ts (a .r) (a .placement) l))) e, (ap (λ (x : Checked). lentAfter x o (over (recordsOf (a .r) l (trianglesOf ps ts (a .r) (a .placement) l)) o)) e, ap (λ (x : Checked). lentAfter x q (over (triangleList ps ts (a .r) (a .placement) l) q)) e))
 
 returns-2 : tie.Need-returns-2
@@ -91,7 +91,7 @@ pub list-pairs-spec : {M : Type 1} → statement M
 list-pairs-spec =
     tie.close
     (tie.spec
-    input-fault-requires
+    list-input-fault-requires
     enum-known-f
     enum-told
     count-cells-requires

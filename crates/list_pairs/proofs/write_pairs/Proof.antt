@@ -8,7 +8,7 @@ use native.Mathlib.Omega.{arith}
 use lib.ListN.{length}
 use Rattle.marking_mesh.specs.Mesh.{triangles}
 use Rattle.list_rows.specs.Rows.{Entered}
-use Rattle.list_entries.specs.Entries.{allOf}
+use Rattle.list_hits.specs.Hits.{allOf}
 use Rattle.list_pairs.proofs.Wholes.{plain-shown, shown-table, count-room, ends-all, laid-shown, place-room, records-whole, triangles-whole}
 use mathlib.Core.Bool.{true}
 

@@ -29,12 +29,12 @@ enum-told c = search needs
 
 -- what the checks find
 checks : (c : tie.After-and-then)
-    → c .and-then .result ≡ (pointsFault (c .before .before .before .before .args .points .now) andThen resolutionFault (c .before .before .before .before .args .r))
+    → c .and-then .result ≡ (pointsFault (c .before .before .before .before .args .points .now) andThen resolutionFault (c .before .before .before .before .args .resolution))
 checks c = c .and-then .ensures ∙ (λ t. c .before .before .points-fault .ensures t andThen c .before .resolution-fault .ensures t)
 
 -- after the match: neither finds a fault
 fine : (c : tie.After-enum-told)
-    → (pointsFault (c .before .before .before .before .before .before .args .points .now) ≡ Fine) × (resolutionFault (c .before .before .before .before .before .before .args .r) ≡ Fine)
+    → (pointsFault (c .before .before .before .before .before .before .args .points .now) ≡ Fine) × (resolutionFault (c .before .before .before .before .before .before .args .resolution) ≡ Fine)
 fine c = both-fine _ _ (sym (checks (c .before .before)) ∙ c .enum-told .given .1)
 
 spans-of-requires : tie.Need-spans-of-requires
@@ -46,15 +46,15 @@ resolution-grid-requires c κs = resolution-fine _ (fine (c .before) .1)
 returns : tie.Need-returns
 returns c =
     let a = c .before .before .before .before .before .before .before .args in
-    ap (λ (f : Checked). unless f (resolutionGrid (spansOf (a .points .now)) (a .r))) (sym (c .before .f .given .1) ∙ checks (c .before .before .before))
+    ap (λ (f : Checked). unless f (resolutionGrid (spansOf (a .points .now)) (a .resolution))) (sym (c .before .f .given .1) ∙ checks (c .before .before .before))
 
 returns-2 : tie.Need-returns-2
 returns-2 c =
     let t = c .before .before in
     let a = t .before .before .before .before .before .before .args in
     c .resolution-grid .ensures
-    ∙ ap (λ (s : Spans). resolutionGrid s (a .r)) (c .before .spans-of .ensures)
-    ∙ ap (λ (f : Checked). unless f (resolutionGrid (spansOf (a .points .now)) (a .r))) (sym (t .enum-told .given .1) ∙ checks (t .before .before))
+    ∙ ap (λ (s : Spans). resolutionGrid s (a .resolution)) (c .before .spans-of .ensures)
+    ∙ ap (λ (f : Checked). unless f (resolutionGrid (spansOf (a .points .now)) (a .resolution))) (sym (t .enum-told .given .1) ∙ checks (t .before .before))
 
 pub by-resolution-spec : {M : Type 1} → statement M
 by-resolution-spec = tie.close (tie.spec points-fault-requires resolution-fault-requires and-then-requires enum-known-f enum-told spans-of-requires resolution-grid-requires returns returns-2)

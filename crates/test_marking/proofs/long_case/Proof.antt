@@ -17,8 +17,14 @@ at-most-requires c κs = search needs
 at-most-requires-2 : tie.Need-at-most-requires-2
 at-most-requires-2 c κs = search needs
 
+add-axes-of : tie.Need-add-axes-of
+add-axes-of c = search needs
+
 axes-of-requires : tie.Need-axes-of-requires
 axes-of-requires c κs = search needs
+
+add-placement-of : tie.Need-add-placement-of
+add-placement-of c = search needs
 
 placement-of-requires : tie.Need-placement-of-requires
 placement-of-requires c κs = search needs
@@ -58,7 +64,9 @@ long-case-spec =
     zeros-requires
     at-most-requires
     at-most-requires-2
+    add-axes-of
     axes-of-requires
+    add-placement-of
     placement-of-requires
     array-share-prefix-points
     slice-aggregate-marked

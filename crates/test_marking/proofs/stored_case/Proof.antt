@@ -20,8 +20,14 @@ add-words c = search needs
 words-requires : tie.Need-words-requires
 words-requires c κs = search needs
 
+add-axes-of : tie.Need-add-axes-of
+add-axes-of c = search needs
+
 axes-of-requires : tie.Need-axes-of-requires
 axes-of-requires c κs = search needs
+
+add-placement-of : tie.Need-add-placement-of
+add-placement-of c = search needs
 
 placement-of-requires : tie.Need-placement-of-requires
 placement-of-requires c κs = search needs
@@ -62,7 +68,9 @@ stored-case-spec =
     mul-words
     add-words
     words-requires
+    add-axes-of
     axes-of-requires
+    add-placement-of
     placement-of-requires
     array-share-prefix-points
     slice-aggregate-marked

@@ -26,8 +26,8 @@ array-copy-out-dot-3 c = lit< tt
 dot-requires-3 : tie.Need-dot-requires-3
 dot-requires-3 c κs = (c .before .before .before .before .before .pre .0, c .before .before .before .before .before .pre .1 .at 2)
 
-span-requires : tie.Need-span-requires
-span-requires c κs = c .before .before .before .before .before .before .pre .0
+cube-reach-requires : tie.Need-cube-reach-requires
+cube-reach-requires c κs = c .before .before .before .before .before .before .pre .0
 
 array-copy-out-t19 : tie.Need-array-copy-out-t19
 array-copy-out-t19 c = lit< tt
@@ -59,7 +59,7 @@ sub-t31 c =
     let a = got tt (c .before .before .before .before .before .before .before .before .before .before .dot .ensures) (dot-in (p .0) (p .1 .at 0)) in
     let b = got tt (c .before .before .before .before .before .before .before .before .dot2 .ensures) (dot-in (p .0) (p .1 .at 1)) in
     let d = got tt (c .before .before .before .before .before .before .dot3 .ensures) (dot-in (p .0) (p .1 .at 2)) in
-    let r = got tt (c .before .before .before .before .before .span .ensures) (reach-in (p .0)) in
+    let r = got tt (c .before .before .before .before .before .cube-reach .ensures) (reach-in (p .0)) in
     fits tt (v-sub (v-lesser tt (c .least2 .ensures) (v-lesser tt (c .before .least .ensures) a b) d) r)
 
 greatest-requires : tie.Need-greatest-requires
@@ -74,7 +74,7 @@ add-t34 c =
     let a = got tt (c .before .before .before .before .before .before .before .before .before .before .before .before .dot .ensures) (dot-in (p .0) (p .1 .at 0)) in
     let b = got tt (c .before .before .before .before .before .before .before .before .before .before .dot2 .ensures) (dot-in (p .0) (p .1 .at 1)) in
     let d = got tt (c .before .before .before .before .before .before .before .before .dot3 .ensures) (dot-in (p .0) (p .1 .at 2)) in
-    let r = got tt (c .before .before .before .before .before .before .before .span .ensures) (reach-in (p .0)) in
+    let r = got tt (c .before .before .before .before .before .before .before .cube-reach .ensures) (reach-in (p .0)) in
     fits tt (v-add (v-greater tt (c .greatest2 .ensures) (v-greater tt (c .before .greatest .ensures) a b) d) r)
 
 returns : tie.Need-returns
@@ -84,7 +84,7 @@ returns c =
     let a = got tt (c .before .before .before .before .before .before .before .before .before .before .before .before .dot .ensures) (dot-in (p .0) (p .1 .at 0)) in
     let b = got tt (c .before .before .before .before .before .before .before .before .before .before .dot2 .ensures) (dot-in (p .0) (p .1 .at 1)) in
     let d = got tt (c .before .before .before .before .before .before .before .before .dot3 .ensures) (dot-in (p .0) (p .1 .at 2)) in
-    let r = got tt (c .before .before .before .before .before .before .before .span .ensures) (reach-in (p .0)) in
+    let r = got tt (c .before .before .before .before .before .before .before .cube-reach .ensures) (reach-in (p .0)) in
     let x = times tt (lit (pos units)) (arg tt (p .0 .at 0)) .is in
     let y = times tt (lit (pos units)) (arg tt (p .0 .at 1)) .is in
     let z = times tt (lit (pos units)) (arg tt (p .0 .at 2)) .is in
@@ -102,7 +102,7 @@ band-along-spec =
     dot-requires-2
     array-copy-out-dot-3
     dot-requires-3
-    span-requires
+    cube-reach-requires
     array-copy-out-t19
     mul-t20
     array-copy-out-t23

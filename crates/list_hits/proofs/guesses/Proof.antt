@@ -1,6 +1,6 @@
--- `list_entries::guesses` meets its contract: a table of 65,536. Assumes nothing.
-use Rattle.list_entries.proofs.guesses.Statement.{statement}
-use Rattle.list_entries.proofs.guesses.Tie as tie
+-- `list_hits::guesses` meets its contract: a table of 65,536. Assumes nothing.
+use Rattle.list_hits.proofs.guesses.Statement.{statement}
+use Rattle.list_hits.proofs.guesses.Tie as tie
 use mathlib.Core.Path.{_≡_, refl, sym}
 use Prim.Native.Nat.{_-_}
 use native.Mathlib.Omega.{arith}

@@ -1,6 +1,6 @@
--- `list_entries::guess_slab` meets its contract: it stays within the table. Assumes nothing.
-use Rattle.list_entries.proofs.guess_slab.Statement.{statement}
-use Rattle.list_entries.proofs.guess_slab.Tie as tie
+-- `list_hits::guess_slab` meets its contract: it stays within the table. Assumes nothing.
+use Rattle.list_hits.proofs.guess_slab.Statement.{statement}
+use Rattle.list_hits.proofs.guess_slab.Tie as tie
 use mathlib.Core.Path.{_≡_, refl, _∙_}
 use Prim.Native.Nat.{_+_, _*_, _-_}
 use native.Mathlib.Omega.{arith}

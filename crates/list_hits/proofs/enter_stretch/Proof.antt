@@ -1,12 +1,12 @@
--- `list_entries::enter_stretch` meets its contract: the records with the part's keys. Assumes nothing.
-use Rattle.list_entries.proofs.enter_stretch.Statement.{statement}
-use Rattle.list_entries.proofs.enter_stretch.Tie as tie
+-- `list_hits::enter_stretch` meets its contract: the records with the part's keys. Assumes nothing.
+use Rattle.list_hits.proofs.enter_stretch.Statement.{statement}
+use Rattle.list_hits.proofs.enter_stretch.Tie as tie
 use Prim.Native.Nat.{_+_, _*_}
 use native.Mathlib.Omega.{arith}
 use mir.Facts.{fits-32-64}
 use Rattle.list_lookup.proofs.Tables.{behind-none}
 use Rattle.list_rows.proofs.Entering.{entered-size}
-use Rattle.list_entries.proofs.Sweeping.{keys-room, keys-done, keys-none}
+use Rattle.list_hits.proofs.Sweeping.{keys-room, keys-done, keys-none}
 
 key-of-requires : tie.Need-key-of-requires
 key-of-requires c κs = let p = c .before .before .before .before .pre .1 .0 in (omega (arith, p .0), omega (arith, p .1), omega (arith, p .2, c .if1 .taken))
@@ -38,7 +38,7 @@ find-requires c κs = (c .before .before .before .before .before .before .before
 enter-row-requires : tie.Need-enter-row-requires
 enter-row-requires c κs =
     let a = c .before .before .before .before .before .before .before .before .before .before .before .args in let p = c .before .before .before .before .before .before .before .before .before .before .before .pre in let q = p .1 .0 in let f = c .before .before .find .ensures in
-    (p .0, ((f .0, f .1), keys-room (a .entry .round .placing) (a .entry .round .cells) (a .entry .triangle) (a .line .i) (a .line .j) (a .line .k) (a .records .now) (p .0) (q .0) (q .1) (c .before .before .before .before .before .before .before .if1 .taken) (q .2) _ _ (c .before .before .before .before .before .before .key-of .ensures) (c .before .before .before .before .before .key-of2 .ensures) _ (p .1 .1)))
+    (p .0, ((f .0, f .1), keys-room (a .entrant .round .placing) (a .entrant .round .cells) (a .entrant .triangle) (a .line .i) (a .line .j) (a .line .k) (a .records .now) (p .0) (q .0) (q .1) (c .before .before .before .before .before .before .before .if1 .taken) (q .2) _ _ (c .before .before .before .before .before .before .key-of .ensures) (c .before .before .before .before .before .key-of2 .ensures) _ (p .1 .1)))
 
 same-length : tie.Need-same-length
 same-length c = c .before .before .before .before .enter-row .ensures .bumped .size
@@ -49,10 +49,10 @@ same-length-2 c = entered-size _ _ _ _ _ _ _ (c .before .before .before .before 
 returns : tie.Need-returns
 returns c =
     let a = c .before .before .before .before .before .before .before .before .before .before .before .before .before .before .before .before .args in let p = c .before .before .before .before .before .before .before .before .before .before .before .before .before .before .before .before .pre in let q = p .1 .0 in
-    keys-done (a .entry .round .placing) (a .entry .round .cells) (a .entry .triangle) (a .line .i) (a .line .j) (a .line .k) (a .records .now) (p .0) (q .0) (q .1) (c .before .before .before .before .before .before .before .before .before .before .before .before .if1 .taken) (q .2) _ _ (c .before .before .before .before .before .before .before .before .before .before .before .key-of .ensures) (c .before .before .before .before .before .before .before .before .before .before .key-of2 .ensures) _ _ _ (c .before .before .before .before .enter-row .ensures)
+    keys-done (a .entrant .round .placing) (a .entrant .round .cells) (a .entrant .triangle) (a .line .i) (a .line .j) (a .line .k) (a .records .now) (p .0) (q .0) (q .1) (c .before .before .before .before .before .before .before .before .before .before .before .before .if1 .taken) (q .2) _ _ (c .before .before .before .before .before .before .before .before .before .before .before .key-of .ensures) (c .before .before .before .before .before .before .before .before .before .before .key-of2 .ensures) _ _ _ (c .before .before .before .before .enter-row .ensures)
 
 returns-2 : tie.Need-returns-2
-returns-2 c = let a = c .before .before .before .before .args in keys-none (a .entry .round .placing) (a .entry .round .cells) (a .entry .triangle) (a .line .i) (a .line .j) (a .line .k) _ _ (c .if1 .left)
+returns-2 c = let a = c .before .before .before .before .args in keys-none (a .entrant .round .placing) (a .entrant .round .cells) (a .entrant .triangle) (a .line .i) (a .line .j) (a .line .k) _ _ (c .if1 .left)
 
 pub enter-stretch-spec : {M : Type 1} → statement M
 enter-stretch-spec =

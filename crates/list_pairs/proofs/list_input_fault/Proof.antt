@@ -1,7 +1,7 @@
--- `list_pairs::input_fault` meets its contract: the checks of the mesh, and then of the labels. Assumes nothing.
+-- `list_pairs::list_input_fault` meets its contract: the checks of the mesh, and then of the labels. Assumes nothing.
 use borrow.Author.Needs.{needs}
-use Rattle.list_pairs.proofs.input_fault.Statement.{statement}
-use Rattle.list_pairs.proofs.input_fault.Tie as tie
+use Rattle.list_pairs.proofs.list_input_fault.Statement.{statement}
+use Rattle.list_pairs.proofs.list_input_fault.Tie as tie
 use mathlib.Core.Path.{ap, _∙_}
 use Rattle.grid.specs.declared.LabelSet.{LabelSet}
 use Rattle.grid.specs.Answers.{_andThen_}
@@ -22,8 +22,8 @@ and-then-requires c κs = search needs
 returns : tie.Need-returns
 returns c = let l = c .before .before .before .before .before .before .before .args .labels .now in c .and-then .ensures ∙ (λ i. c .before .before .before .mesh-fault .ensures i andThen (c .before .labels-fault .ensures ∙ ap (λ (s : LabelSet). labelsFault s l) (c .before .before .known-labels .ensures)) i)
 
-pub input-fault-spec : {M : Type 1} → statement M
-input-fault-spec =
+pub list-input-fault-spec : {M : Type 1} → statement M
+list-input-fault-spec =
     tie.close
     (tie.spec
     mesh-fault-requires

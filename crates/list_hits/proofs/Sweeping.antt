@@ -30,7 +30,7 @@ use Rattle.order.specs.Order.{key, chosen}
 use Rattle.list_record.specs.Record.{recordAt}
 use Rattle.list_lookup.specs.Lookup.{Table}
 use Rattle.list_rows.specs.Rows.{meets, keyed, gets, Entered, Free, Room}
-use Rattle.list_entries.specs.Entries.{lineAt, slabAt, LineRest, allOf}
+use Rattle.list_hits.specs.Hits.{lineAt, slabAt, LineRest, allOf}
 use Rattle.list_rows.proofs.Entering.{entered-none, entered-same, entered-then, room-part, room-rest, bump-table, bump-gets, gets-either, gets-none, gets-same}
 
 -- two tests that imply each other are one

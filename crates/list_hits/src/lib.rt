@@ -11,12 +11,12 @@ ghost use Rattle.marking.specs.Marked.{hits};
 ghost use Rattle.marking.specs.Painted.{leftIn, AxesLeave, Ready};
 ghost use Rattle.list_lookup.specs.Lookup.{Table};
 ghost use Rattle.list_rows.specs.Rows.{gets, Entered, Room};
-ghost use Rattle.list_entries.specs.Entries.{lineAt, slabAt, LineRest, allOf};
+ghost use Rattle.list_hits.specs.Hits.{lineAt, slabAt, LineRest, allOf};
 use grid::Axes;
 use grid::Cell;
 use grid::Laid;
 use grid::Stretch;
-use list_rows::Entry;
+use list_rows::Entrant;
 use list_rows::Round;
 use marking::Sweep;
 use touch::Bands;
@@ -82,13 +82,19 @@ struct Line {
 }
 
 // The cells of a line.
-fn enter_stretch(records: &mut [u32], list: &mut [u32], guesses: &[u32], entry: Entry, line: Line)
-    requires { ⌜ Table (now records) (entry .round .cells) ⌝ }
+fn enter_stretch(
+    records: &mut [u32],
+    list: &mut [u32],
+    guesses: &[u32],
+    entrant: Entrant,
+    line: Line,
+)
+    requires { ⌜ Table (now records) (entrant .round .cells) ⌝ }
     requires { ⌜ (line .i < 256) × (line .j < 256) × (line .k .to ≤ 256) × (length (now guesses) ≡ 65536) ⌝ }
-    requires { ⌜ Room (entry .round .placing) (entry .round .cells) (gets (entry .triangle) (holds (lineAt (line .i) (line .j) (line .k))) (now records)) (now records) (length (now list)) ⌝ }
-    ensures { λ _. ⌜ Entered (entry .round .placing) (entry .round .cells) (gets (entry .triangle) (holds (lineAt (line .i) (line .j) (line .k))) (now (records .entry))) (now (records .entry)) (now (list .entry)) (now (records .exit)) (now (list .exit)) ⌝ }
+    requires { ⌜ Room (entrant .round .placing) (entrant .round .cells) (gets (entrant .triangle) (holds (lineAt (line .i) (line .j) (line .k))) (now records)) (now records) (length (now list)) ⌝ }
+    ensures { λ _. ⌜ Entered (entrant .round .placing) (entrant .round .cells) (gets (entrant .triangle) (holds (lineAt (line .i) (line .j) (line .k))) (now (records .entry))) (now (records .entry)) (now (list .entry)) (now (records .exit)) (now (list .exit)) ⌝ }
 {
-    let n = entry.round.cells;
+    let n = entrant.round.cells;
     let i = line.i;
     let j = line.j;
     let from = line.k.from;
@@ -98,7 +104,7 @@ fn enter_stretch(records: &mut [u32], list: &mut [u32], guesses: &[u32], entry: 
         let high = list_lookup::key_of(Cell { i, j, k: to });
         let near = guesses[i * 256 + j] as usize + from;
         let x = list_lookup::find(records, n, 0, near, low);
-        list_rows::enter_row(records, list, entry, low, high, x);
+        list_rows::enter_row(records, list, entrant, low, high, x);
     }
 }
 
@@ -107,19 +113,19 @@ fn enter_line(
     records: &mut [u32],
     list: &mut [u32],
     guesses: &[u32],
-    entry: Entry,
+    entrant: Entrant,
     bands: Bands,
     line: Line,
 )
-    requires { ⌜ Table (now records) (entry .round .cells) × BandsFit bands × LineRest bands (line .k) (line .i) (line .j) ⌝ }
+    requires { ⌜ Table (now records) (entrant .round .cells) × BandsFit bands × LineRest bands (line .k) (line .i) (line .j) ⌝ }
     requires { ⌜ (line .i < 256) × (line .j < 256) × (line .k .to ≤ 256) × (length (now guesses) ≡ 65536) ⌝ }
-    requires { ⌜ Room (entry .round .placing) (entry .round .cells) (gets (entry .triangle) (leftIn (lineAt (line .i) (line .j) (line .k)) bands) (now records)) (now records) (length (now list)) ⌝ }
-    ensures { λ _. ⌜ Entered (entry .round .placing) (entry .round .cells) (gets (entry .triangle) (leftIn (lineAt (line .i) (line .j) (line .k)) bands) (now (records .entry))) (now (records .entry)) (now (list .entry)) (now (records .exit)) (now (list .exit)) ⌝ }
+    requires { ⌜ Room (entrant .round .placing) (entrant .round .cells) (gets (entrant .triangle) (leftIn (lineAt (line .i) (line .j) (line .k)) bands) (now records)) (now records) (length (now list)) ⌝ }
+    ensures { λ _. ⌜ Entered (entrant .round .placing) (entrant .round .cells) (gets (entrant .triangle) (leftIn (lineAt (line .i) (line .j) (line .k)) bands) (now (records .entry))) (now (records .entry)) (now (list .entry)) (now (records .exit)) (now (list .exit)) ⌝ }
 {
     let i = line.i;
     let j = line.j;
     let k = marking_cuts::rest_along_k(bands, line.k, i, j);
-    enter_stretch(records, list, guesses, entry, Line { i, j, k });
+    enter_stretch(records, list, guesses, entrant, Line { i, j, k });
 }
 
 // The rows of slab i of a triangle's block. What does not depend on j, or not on k, is cut here.
@@ -127,14 +133,14 @@ fn enter_slab(
     records: &mut [u32],
     list: &mut [u32],
     guesses: &[u32],
-    entry: Entry,
+    entrant: Entrant,
     sweep: Sweep,
     i: usize,
 )
-    requires { ⌜ Table (now records) (entry .round .cells) × BandsFit (sweep .bands) × AxesLeave (sweep .bands) (slabAt (sweep .block) i) ⌝ }
+    requires { ⌜ Table (now records) (entrant .round .cells) × BandsFit (sweep .bands) × AxesLeave (sweep .bands) (slabAt (sweep .block) i) ⌝ }
     requires { ⌜ (i < 256) × (sweep .block .j .to ≤ 256) × (sweep .block .k .to ≤ 256) × (length (now guesses) ≡ 65536) ⌝ }
-    requires { ⌜ Room (entry .round .placing) (entry .round .cells) (gets (entry .triangle) (leftIn (slabAt (sweep .block) i) (sweep .bands)) (now records)) (now records) (length (now list)) ⌝ }
-    ensures { λ _. ⌜ Entered (entry .round .placing) (entry .round .cells) (gets (entry .triangle) (leftIn (slabAt (sweep .block) i) (sweep .bands)) (now (records .entry))) (now (records .entry)) (now (list .entry)) (now (records .exit)) (now (list .exit)) ⌝ }
+    requires { ⌜ Room (entrant .round .placing) (entrant .round .cells) (gets (entrant .triangle) (leftIn (slabAt (sweep .block) i) (sweep .bands)) (now records)) (now records) (length (now list)) ⌝ }
+    ensures { λ _. ⌜ Entered (entrant .round .placing) (entrant .round .cells) (gets (entrant .triangle) (leftIn (slabAt (sweep .block) i) (sweep .bands)) (now (records .entry))) (now (records .entry)) (now (list .entry)) (now (records .exit)) (now (list .exit)) ⌝ }
 {
     let bands = sweep.bands;
     let f = marking_cuts::slab_along_j(bands, sweep.block.j, i);
@@ -142,21 +148,27 @@ fn enter_slab(
     let to = f.to;
     let mut j = f.from;
     while j < to {
-        enter_line(records, list, guesses, entry, bands, Line { i, j, k });
+        enter_line(records, list, guesses, entrant, bands, Line { i, j, k });
         j += 1;
     }
 }
 
-fn enter_block(records: &mut [u32], list: &mut [u32], guesses: &[u32], entry: Entry, sweep: Sweep)
-    requires { ⌜ Table (now records) (entry .round .cells) × BandsFit (sweep .bands) × AxesLeave (sweep .bands) (sweep .block) ⌝ }
+fn enter_block(
+    records: &mut [u32],
+    list: &mut [u32],
+    guesses: &[u32],
+    entrant: Entrant,
+    sweep: Sweep,
+)
+    requires { ⌜ Table (now records) (entrant .round .cells) × BandsFit (sweep .bands) × AxesLeave (sweep .bands) (sweep .block) ⌝ }
     requires { ⌜ (sweep .block .i .to ≤ 256) × (sweep .block .j .to ≤ 256) × (sweep .block .k .to ≤ 256) × (length (now guesses) ≡ 65536) ⌝ }
-    requires { ⌜ Room (entry .round .placing) (entry .round .cells) (gets (entry .triangle) (leftIn (sweep .block) (sweep .bands)) (now records)) (now records) (length (now list)) ⌝ }
-    ensures { λ _. ⌜ Entered (entry .round .placing) (entry .round .cells) (gets (entry .triangle) (leftIn (sweep .block) (sweep .bands)) (now (records .entry))) (now (records .entry)) (now (list .entry)) (now (records .exit)) (now (list .exit)) ⌝ }
+    requires { ⌜ Room (entrant .round .placing) (entrant .round .cells) (gets (entrant .triangle) (leftIn (sweep .block) (sweep .bands)) (now records)) (now records) (length (now list)) ⌝ }
+    ensures { λ _. ⌜ Entered (entrant .round .placing) (entrant .round .cells) (gets (entrant .triangle) (leftIn (sweep .block) (sweep .bands)) (now (records .entry))) (now (records .entry)) (now (list .entry)) (now (records .exit)) (now (list .exit)) ⌝ }
 {
     let to = sweep.block.i.to;
     let mut i = sweep.block.i.from;
     while i < to {
-        enter_slab(records, list, guesses, entry, sweep, i);
+        enter_slab(records, list, guesses, entrant, sweep, i);
         i += 1;
     }
 }
@@ -168,16 +180,16 @@ fn enter_triangle(
     ps: &[f32],
     ts: &[u32],
     laid: Laid,
-    entry: Entry,
+    entrant: Entrant,
 )
-    requires { ⌜ Table (now records) (entry .round .cells) × Sound (laid .axes) × (length (now guesses) ≡ 65536) ⌝ }
-    requires { ⌜ Ready (now ps) (now ts) (laid .axes) (laid .placement) × (entry .triangle < triangles (now ts)) ⌝ }
-    requires { ⌜ Room (entry .round .placing) (entry .round .cells) (gets (entry .triangle) (hits (now ps) (now ts) (laid .axes) (laid .placement) (entry .triangle)) (now records)) (now records) (length (now list)) ⌝ }
-    ensures { λ _. ⌜ Entered (entry .round .placing) (entry .round .cells) (gets (entry .triangle) (hits (now (ps .entry)) (now (ts .entry)) (laid .axes) (laid .placement) (entry .triangle)) (now (records .entry))) (now (records .entry)) (now (list .entry)) (now (records .exit)) (now (list .exit)) ⌝ }
+    requires { ⌜ Table (now records) (entrant .round .cells) × Sound (laid .axes) × (length (now guesses) ≡ 65536) ⌝ }
+    requires { ⌜ Ready (now ps) (now ts) (laid .axes) (laid .placement) × (entrant .triangle < triangles (now ts)) ⌝ }
+    requires { ⌜ Room (entrant .round .placing) (entrant .round .cells) (gets (entrant .triangle) (hits (now ps) (now ts) (laid .axes) (laid .placement) (entrant .triangle)) (now records)) (now records) (length (now list)) ⌝ }
+    ensures { λ _. ⌜ Entered (entrant .round .placing) (entrant .round .cells) (gets (entrant .triangle) (hits (now (ps .entry)) (now (ts .entry)) (laid .axes) (laid .placement) (entrant .triangle)) (now (records .entry))) (now (records .entry)) (now (list .entry)) (now (records .exit)) (now (list .exit)) ⌝ }
 {
-    let t = entry.triangle as usize;
+    let t = entrant.triangle as usize;
     let sweep = marking::sweep_of(ps, ts, laid.axes, laid.placement, t);
-    enter_block(records, list, guesses, entry, sweep);
+    enter_block(records, list, guesses, entrant, sweep);
 }
 
 pub fn enter_all(
@@ -198,8 +210,8 @@ pub fn enter_all(
     let mut t = 0usize;
     while t < all {
         let triangle = t as u32;
-        let entry = Entry { round, triangle };
-        enter_triangle(records, list, guesses, ps, ts, laid, entry);
+        let entrant = Entrant { round, triangle };
+        enter_triangle(records, list, guesses, ps, ts, laid, entrant);
         t += 1;
     }
 }

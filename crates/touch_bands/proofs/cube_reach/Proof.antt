@@ -1,11 +1,11 @@
--- `touch_bands::span` meets its contract. Assumes nothing.
+-- `touch_bands::cube_reach` meets its contract. Assumes nothing.
 use lib.Dec.{lit<}
 use Rattle.ints.specs.Bound.{arg, sized, lit, plus, times, v-in, v-add, v-mul, fits}
-use Rattle.touch.specs.Touch.{reach}
+use Rattle.touch.specs.Touch.{cubeReach}
 use Rattle.numbers.specs.Rounding.{half}
 use lib.IntN.{pos}
-use Rattle.touch_bands.proofs.span.Statement.{statement}
-use Rattle.touch_bands.proofs.span.Tie as tie
+use Rattle.touch_bands.proofs.cube_reach.Statement.{statement}
+use Rattle.touch_bands.proofs.cube_reach.Tie as tie
 
 array-copy-out-abs : tie.Need-array-copy-out-abs
 array-copy-out-abs c = lit< tt
@@ -35,11 +35,11 @@ mul-result : tie.Need-mul-result
 mul-result c = fits tt (v-mul (lit (pos half)) (plus tt (plus tt (sized tt (c .before .before .before .before .abs .ensures) (arg tt (c .before .before .before .before .before .before .pre .at _))) (sized tt (c .before .before .abs2 .ensures) (arg tt (c .before .before .before .before .before .before .pre .at _)))) (sized tt (c .abs3 .ensures) (arg tt (c .before .before .before .before .before .before .pre .at _)))))
 
 returns : tie.Need-returns
-unfolding reach
+unfolding cubeReach
 returns c = times tt (lit (pos half)) (plus tt (plus tt (sized tt (c .before .before .before .before .abs .ensures) (arg tt (c .before .before .before .before .before .before .pre .at 0))) (sized tt (c .before .before .abs2 .ensures) (arg tt (c .before .before .before .before .before .before .pre .at 1)))) (sized tt (c .abs3 .ensures) (arg tt (c .before .before .before .before .before .before .pre .at 2)))) .is
 
-pub span-spec : {M : Type 1} → statement M
-span-spec =
+pub cube-reach-spec : {M : Type 1} → statement M
+cube-reach-spec =
     tie.close
     (tie.spec
     array-copy-out-abs

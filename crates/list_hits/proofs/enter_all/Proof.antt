@@ -1,12 +1,12 @@
--- `list_entries::enter_all` meets its contract: triangle after triangle (`Going`). Assumes nothing.
-use Rattle.list_entries.proofs.enter_all.Statement.{statement}
-use Rattle.list_entries.proofs.enter_all.Tie as tie
+-- `list_hits::enter_all` meets its contract: triangle after triangle (`Going`). Assumes nothing.
+use Rattle.list_hits.proofs.enter_all.Statement.{statement}
+use Rattle.list_hits.proofs.enter_all.Tie as tie
 use Prim.Native.Nat.{_-_}
 use native.Mathlib.Nat.{div-add-mod}
 use native.Mathlib.Omega.{arith}
 use lib.ListN.{length}
 use Rattle.list_rows.proofs.Entering.{entered-size}
-use Rattle.list_entries.proofs.Sweeping.{Going, going-first, going-done, going-on, going-table, triangle-room}
+use Rattle.list_hits.proofs.Sweeping.{Going, going-first, going-done, going-on, going-table, triangle-room}
 
 abbrev Inv-loop : tie.InvT-loop
 Inv-loop records₀ list₀ guesses ps ts laid round all t₀ records list t = Going (round .placing) (round .cells) ps ts (laid .axes) (laid .placement) records₀ list₀ records list t
