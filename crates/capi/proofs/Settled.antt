@@ -40,7 +40,7 @@ use Rattle.program_summary.specs.Summary.{Summarizes}
 use Rattle.program_summary.proofs.Once.{summary-one}
 use Rattle.program.specs.declared.Writing.{Writing}
 use Rattle.program.specs.declared.Writing.the-variants as writing
-use Rattle.program.specs.Records as records
+use Rattle.program.specs.Program as records
 use Rattle.program.proofs.Laws as record-laws
 use Rattle.capi_flat.specs.declared.Filled.{Filled}
 use Rattle.capi_flat.specs.declared.Summarized.{Summarized}

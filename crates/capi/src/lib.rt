@@ -19,7 +19,7 @@ ghost use Rattle.planes.specs.Planes.{planesAnswer, planesBuffer};
 ghost use Rattle.planes.specs.Split.{splitAnswer, splitBuffer};
 ghost use Rattle.boxes.specs.Boxes as boxings;
 ghost use Rattle.program_summary.specs.Summary.{Summarizes};
-ghost use Rattle.program.specs.Records.{Runs};
+ghost use Rattle.program.specs.Program.{Runs};
 ghost use Rattle.capi_flat.specs.Flat.{flatOf, Tells};
 ghost use Rattle.capi_flat.specs.Structs.{toAxes, toCell, toPlacement, verdict, sized, filled, counted, listing, planned, parted, summarized, noGrid, noFill, noList, noPlanes, noSides, noSummary, asAnswer, sliceAt};
 use capi_flat::Axes;

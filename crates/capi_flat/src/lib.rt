@@ -12,7 +12,7 @@ ghost use Rattle.planes.specs.Planes.{outcomeOfPlanes};
 ghost use Rattle.planes.specs.Split.{outcomeOfSplit};
 ghost use Rattle.boxes.specs.Boxes as boxings;
 ghost use Rattle.program_summary.specs.Summary as summings;
-ghost use Rattle.program.specs.Records as writings;
+ghost use Rattle.program.specs.Program as writings;
 ghost use Rattle.capi_flat.specs.Flat.{flatOf};
 ghost use Rattle.capi_flat.specs.Structs.{toAxes, toCell, toPlacement, verdict, sized, filled, counted, listing, planned, parted, summarized, noGrid, noFill, noList, noPlanes, noSides, noSummary, asAnswer};
 use boxes::Boxing;

@@ -9,7 +9,7 @@ use lib.Dec.{eqb}
 use lib.ListN.{length, getD, set}
 use borrow.Author.Tests.{eq-eqb, ne-eqb}
 use Rattle.grid.specs.Counts.{count, countOf}
-use Rattle.edits_settle.proofs.Turned.{equal, is-one, not-one}
+use Rattle.edits_settle.proofs.Relabelled.{equal, is-one, not-one}
 use Rattle.edits.specs.Edits.{changed}
 
 -- 1 where two labels differ

@@ -22,7 +22,7 @@ use Rattle.edits_reach.proofs.Ways.{numberOf, way-numbered, numbered-low}
 use Rattle.edits_settle.specs.declared.SealCounts.{SealCounts}
 use Rattle.edits.specs.Edits.{closing, lidded, HasWay, Closes, lid, sealed, stays, changed, Edited}
 use Rattle.edits_settle.specs.Closing.{Map, FromBeside, Fate, as-was, marked, cut, Standing, Settles, Restores, isBelow}
-use Rattle.edits_settle.proofs.Turned.{by-place, count-kept}
+use Rattle.edits_settle.proofs.Relabelled.{by-place, count-kept}
 use Rattle.edits_settle.proofs.Restorings.{below-so, below-not}
 use Rattle.edits.proofs.Changes.{changed-count, changed-one}
 use Rattle.edits_settle.proofs.Settlings.{way-on, through-label, through-keep}

@@ -19,7 +19,7 @@ use Rattle.edits_reach.specs.Reach.{wayOf, Sees, MayReach, Reaches}
 use Rattle.edits_reach.proofs.Tests.{true-false}
 use Rattle.edits_reach.proofs.Weights.{count-more}
 use Rattle.edits_reach.proofs.Ways.{numberOf, way-numbered, numbered-low, seen-room}
-use Rattle.edits_settle.proofs.Turned.{by-place}
+use Rattle.edits_settle.proofs.Relabelled.{by-place}
 use Rattle.edits_settle.proofs.Settlings.{reached}
 use Rattle.edits.specs.Edits.{opening, MeetsAir, aired, unreached, alone, other, changed, Edited}
 use Rattle.edits.proofs.Changes.{changed-count}

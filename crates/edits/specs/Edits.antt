@@ -16,7 +16,7 @@ use Rattle.grid.specs.Paths.{Through}
 use Rattle.grid.specs.Labels.{OUTSIDE, INSIDE, SURFACE}
 use Rattle.edits.specs.declared.Editing.{Editing}
 use Rattle.edits.specs.declared.Editing.the-variants.{Changed, Refused}
-pub use Rattle.edits_checks.specs.Editable.{mapLabels, inGrid, wrongKind, cellFault}
+pub use Rattle.edits_checks.specs.Checks.{mapLabels, inGrid, wrongKind, cellFault}
 pub use Rattle.edits_settle.specs.Closing.{HasWay}
 
 -- 01's number and values for each case of `Editing`: "Each reports how many labels changed"

@@ -1,4 +1,4 @@
--- A law of specs/Editable.antt: what it is for a cell to be of the grid. Assumes nothing.
+-- A law of specs/Checks.antt: what it is for a cell to be of the grid. Assumes nothing.
 use mathlib.Core.Bool.{true, not, _&&_}
 use mathlib.Core.Logic.{_↔_}
 use mathlib.Core.Path.{_≡_}
@@ -8,7 +8,7 @@ use Rattle.grid.specs.declared.Axes.{Axes}
 use Rattle.grid.specs.declared.Cell.{Cell}
 use Rattle.grid.specs.Grid.{InGrid}
 use Rattle.grid.proofs.First.{both-true}
-use Rattle.edits_checks.specs.Editable.{inGrid}
+use Rattle.edits_checks.specs.Checks.{inGrid}
 
 -- 12 is given exactly for a cell that is not of the grid
 pub in-grid : (r : Axes) (c : Cell) → (inGrid r c ≡ true) ↔ InGrid r c

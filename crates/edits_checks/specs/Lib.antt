@@ -1,1 +1,1 @@
-pub mod Editable
+pub mod Checks

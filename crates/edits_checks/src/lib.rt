@@ -3,7 +3,7 @@ ghost use mathlib.Core.Path.{_≡_};
 ghost use Rattle.grid.specs.Answers.{_andThen_};
 ghost use Rattle.grid.specs.Checks.{mapFault};
 ghost use Rattle.grid.specs.Grid.{Sheet};
-ghost use Rattle.edits_checks.specs.Editable.{mapLabels, inGrid, wrongKind, cellFault};
+ghost use Rattle.edits_checks.specs.Checks.{mapLabels, inGrid, wrongKind, cellFault};
 use grid::Axes;
 use grid::Cell;
 use grid::Checked;

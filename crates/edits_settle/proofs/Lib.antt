@@ -1,3 +1,3 @@
-pub mod Turned
+pub mod Relabelled
 pub mod Settlings
 pub mod Restorings

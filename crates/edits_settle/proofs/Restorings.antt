@@ -18,7 +18,7 @@ use Rattle.grid.proofs.First.{le-or-lt}
 use Rattle.edits_reach.specs.declared.Seen.{Seen}
 use Rattle.edits_reach.specs.Reach.{wayOf, Sees}
 use Rattle.edits_settle.specs.Closing.{Rooted, Roots, Relabels, Restores, isMark, isBelow}
-use Rattle.edits_settle.proofs.Settlings.{root-keep, turned-so, turned-not}
+use Rattle.edits_settle.proofs.Settlings.{root-keep, relabelled-so, relabelled-not}
 
 if-so : (b : Bool) (x y : ℕ) → b ≡ true → cond b x y ≡ x
 if-so b x y e = ap (λ (t : Bool). cond t x y) e
@@ -36,7 +36,7 @@ module _ (r : Axes) (c : Cell) (hc : InGrid r c) (d : ℕ) (low : d < 6) (l : Li
   pub restored-none : (a : Seen) → Sees r l c d a → (a .label ≡ d → ⊥) → Restores (isMark d) r c l l
   restored-none a s z = record {
     size = refl;
-    each = λ roots x h. sym (turned-not (at r l x) d 6 (λ e.
+    each = λ roots x h. sym (relabelled-not (at r l x) d 6 (λ e.
         let k = subst (λ (v : ℕ). Rooted r c l v x) e (roots x h (subst (λ (v : ℕ). v < 6) (sym e) low)) in
         z (s .label (k .some) ∙ k .root)));
   }
@@ -69,10 +69,10 @@ module _ (r : Axes) (c : Cell) (l : List ℕ) where
     where
       both : (v u : ℕ) → u ≡ cond (ltb v t) 6 v → cond (eqb u t) 6 u ≡ cond (ltb v (t + 1)) 6 v
       both v u e = ⊎-elim
-          (λ g. let six : u ≡ 6 = e ∙ below-so v t (omega arith) in turned-not u t 6 (λ q. omega (arith, six)) ∙ six ∙ sym (below-so v (t + 1) (omega arith)))
+          (λ g. let six : u ≡ 6 = e ∙ below-so v t (omega arith) in relabelled-not u t 6 (λ q. omega (arith, six)) ∙ six ∙ sym (below-so v (t + 1) (omega arith)))
           (λ g. let same : u ≡ v = e ∙ below-not v t (omega arith) in dec-eq v t
-          (λ q. turned-so u t 6 (same ∙ q) ∙ sym (below-so v (t + 1) (omega arith)))
-          (λ z. turned-not u t 6 (λ q. z (sym same ∙ q)) ∙ same ∙ sym (below-not v (t + 1) (omega arith))))
+          (λ q. relabelled-so u t 6 (same ∙ q) ∙ sym (below-so v (t + 1) (omega arith)))
+          (λ z. relabelled-not u t 6 (λ q. z (sym same ∙ q)) ∙ same ∙ sym (below-not v (t + 1) (omega arith))))
           (split v)
         where
           split : (v : ℕ) → (v < t) ⊎ (t ≤ v)

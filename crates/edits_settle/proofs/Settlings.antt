@@ -27,7 +27,7 @@ use Rattle.edits_reach.proofs.Tests.{true-false, flag}
 use Rattle.edits_reach.proofs.Ways.{seen-room}
 use Rattle.edits_settle.specs.declared.SealCounts.{SealCounts}
 use Rattle.edits_settle.specs.Closing.{HasWay, Map, Fate, as-was, marked, cut, Rooted, Standing, Relabels, Seals, way-out, cut-off, Settles}
-use Rattle.edits_settle.proofs.Turned.{by-place, count-kept, count-turned}
+use Rattle.edits_settle.proofs.Relabelled.{by-place, count-kept, count-relabelled}
 
 -- a trip that does not stop reaches all
 module _ (r : Axes) (pass done : ℕ) (m : List ℕ) (s : Cell) (ok : MayReach r pass done false m s) (e : List ℕ) (w : Trip) (k : Reaches r pass done false m s e w) where
@@ -129,11 +129,11 @@ module _ (r : Axes) (l : List ℕ) (q : Cell) (d : ℕ) where
   pub second-start : Sheet r l → InGrid r q → (e : List ℕ) (w : Trip) → Reaches r 6 d true l q e w → Sheet r e × (at r e q ≡ d)
   second-start fits h e w k = (record { sound = fits .sound; size = k .size ∙ fits .size }, trip-start h e w k)
 
-pub turned-so : (v d new : ℕ) → v ≡ d → cond (eqb v d) new v ≡ new
-turned-so v d new e = ap (λ (b : Bool). cond b new v) (eq-eqb v d e)
+pub relabelled-so : (v d new : ℕ) → v ≡ d → cond (eqb v d) new v ≡ new
+relabelled-so v d new e = ap (λ (b : Bool). cond b new v) (eq-eqb v d e)
 
-pub turned-not : (v d new : ℕ) → (v ≡ d → ⊥) → cond (eqb v d) new v ≡ v
-turned-not v d new z = ap (λ (b : Bool). cond b new v) (ne-eqb v d z)
+pub relabelled-not : (v d new : ℕ) → (v ≡ d → ⊥) → cond (eqb v d) new v ≡ v
+relabelled-not v d new z = ap (λ (b : Bool). cond b new v) (ne-eqb v d z)
 
 -- every label of q's kind becomes another, by a trip or by a pass
 module _ (r : Axes) (l : List ℕ) (q : Cell) (d new : ℕ) (fits : Sheet r l) (h : InGrid r q) (own : at r l q ≡ d) (low : d < 6) (high : 6 ≤ new) (top : new < 9) where
@@ -153,8 +153,8 @@ module _ (r : Axes) (l : List ℕ) (q : Cell) (d new : ℕ) (fits : Sheet r l) (
     size = k .size;
     only = λ x g. ⊎-elim (λ a. inr (a .1)) (λ a. inl (a .1)) (reached r d new l q relabel-ready e w k x g);
     each = λ roots x g. ⊎-elim
-        (λ a. a .1 ∙ sym (turned-so (at r l x) d new (through-label r l d q own (a .0))))
-        (λ a. a .1 ∙ sym (turned-not (at r l x) d new (λ i. a .0 (roots x g i))))
+        (λ a. a .1 ∙ sym (relabelled-so (at r l x) d new (through-label r l d q own (a .0))))
+        (λ a. a .1 ∙ sym (relabelled-not (at r l x) d new (λ i. a .0 (roots x g i))))
         (reached r d new l q relabel-ready e w k x g);
   }
 
@@ -170,8 +170,8 @@ module _ (r : Axes) (l : List ℕ) (q : Cell) (d new : ℕ) (fits : Sheet r l) (
 
       same : (v : ℕ) → becomes d d new v ≡ cond (eqb v d) new v
       same v = dec-eq v d
-          (λ e. ap (λ (b : Bool). cond b new v) (yes-both v e) ∙ sym (turned-so v d new e))
-          (λ z. ap (λ (b : Bool). cond b new v) (no-both v z) ∙ sym (turned-not v d new z))
+          (λ e. ap (λ (b : Bool). cond b new v) (yes-both v e) ∙ sym (relabelled-so v d new e))
+          (λ z. ap (λ (b : Bool). cond b new v) (no-both v z) ∙ sym (relabelled-not v d new z))
         where
           yes-both : (v : ℕ) → v ≡ d → (leb d v && leb v d) ≡ true
           yes-both v e = λ t. le-leb d v (omega arith) t && le-leb v d (omega arith) t
@@ -306,7 +306,7 @@ module _ (r : Axes) (c : Cell) (hc : InGrid r c) (d : ℕ) (low : d < 6) (trips 
       settled-out : w₁ .met ≡ true → Settles d (d + 1) r c trips l l₁ (came 0 (w₁ .count))
       settled-out met = let x = k₁ .met-at met in marking l₁ (k₁ .size) (k₁ .each) d (x .1) (x .2) (x .3) (w₁ .count) trip-few
 
-      -- it met none, and what it set is turned
+      -- it met none, and what it set takes a new label
       module _ (free : w₁ .met ≡ false) (e : List ℕ) (k₂ : Relabels r q d 7 l₁ e) where
         seven-or : (x : Cell) → InGrid r x → (at r e x ≡ 7) ⊎ (at r e x ≡ at r l₁ x)
         seven-or x h = ⊎-elim (λ a. inr a) (λ a. inl a) (k₂ .only x h)
@@ -335,14 +335,14 @@ module _ (r : Axes) (c : Cell) (hc : InGrid r c) (d : ℕ) (low : d < 6) (trips 
 
           each : (x : Cell) → InGrid r x → (Through r l 6 q x × (at r e x ≡ 7)) ⊎ ((Through r l 6 q x → ⊥) × (at r e x ≡ at r l x))
           each x h = ⊎-elim
-              (λ a. inl (a .0, k₂ .each roots x h ∙ turned-so (at r l₁ x) d 7 (a .2)))
-              (λ a. inr ((λ u. no-mark x h (sym (a .1) ∙ k₁ .whole free x u)), k₂ .each roots x h ∙ turned-not (at r l₁ x) d 7 (λ p. no-mark x h (sym (a .1) ∙ p)) ∙ a .1))
+              (λ a. inl (a .0, k₂ .each roots x h ∙ relabelled-so (at r l₁ x) d 7 (a .2)))
+              (λ a. inr ((λ u. no-mark x h (sym (a .1) ∙ k₁ .whole free x u)), k₂ .each roots x h ∙ relabelled-not (at r l₁ x) d 7 (λ p. no-mark x h (sym (a .1) ∙ p)) ∙ a .1))
               (k₁ .each x h)
 
           -- as many became 7 as the trip set
           seven-more : countOf 7 e ≡ countOf 7 l₁ + w₁ .count
           seven-more =
-              let all = count-turned 7 d (omega arith) l₁ e (k₂ .size) (by-place r l₁ e (λ a b. b ≡ cond (eqb a d) 7 a) (k₁ .size ∙ fits .size) (k₂ .each roots)) in
+              let all = count-relabelled 7 d (omega arith) l₁ e (k₂ .size) (by-place r l₁ e (λ a b. b ≡ cond (eqb a d) 7 a) (k₁ .size ∙ fits .size) (k₂ .each roots)) in
               let none = count-none (λ x. eqb x d) l (by-place r l l (λ a _. eqb a d ≡ false) (fits .size) (λ x h. ne-eqb (at r l x) d (no-mark x h))) in
               omega (arith, all, none, k₁ .counted)
 

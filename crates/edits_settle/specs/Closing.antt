@@ -58,7 +58,7 @@ pub record Relabels (r : Axes) (q : Cell) (d new : ℕ) (before after : List ℕ
   pub only : (x : Cell) → InGrid r x → (at r after x ≡ at r before x) ⊎ (at r after x ≡ new)
   pub each : ((x : Cell) → InGrid r x → at r before x ≡ d → Through r before d q x) → (x : Cell) → InGrid r x → at r after x ≡ cond (eqb (at r before x) d) new (at r before x)
 
--- a trip that met an exit; or one that met none, and what it set then turned
+-- a trip that met an exit; or one that met none, and what it set then took a new label
 pub data Seals (r : Axes) (before : List ℕ) (q : Cell) (d : ℕ) (after : List ℕ) (s : SealCounts) : Type 0 where
   way-out : (w : Trip) → Reaches r OUTSIDE d true before q after w → w .met ≡ true → s .sealed ≡ 0 → s .marked ≡ w .count → Seals r before q d after s
   cut-off : (w : Trip) (l : List ℕ) → Reaches r OUTSIDE d true before q l w → w .met ≡ false → Relabels r q d INSIDE l after → s .sealed ≡ w .count → s .marked ≡ 0 → Seals r before q d after s

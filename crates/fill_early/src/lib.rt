@@ -68,7 +68,7 @@ fn acts(l: &[u8], p: Phase, r: Axes, c: Cell, n: usize) -> bool
     of_i | of_j | of_k
 }
 
-// What came of some cells of a block: how many are walked by then, and whether one of it may act.
+// What came of some cells of a block: how many are walked by then, and whether one of them may act.
 struct Progress {
     walked: usize,
     acting: bool,
@@ -183,6 +183,7 @@ fn near(l: &[u8], n: usize, up: usize, down: usize, a: u8, b: u8, told: [u8; 16]
     }
     out
 }
+
 // Of the sixteen cells from n on: sets those that are to walk and are not told, and answers how many they were and whether
 // one that is told is to walk or walks.
 fn set_sixteen(l: &mut [u8], n: usize, todo: u8, done: u8, other: u8, told: [u8; 16]) -> Progress

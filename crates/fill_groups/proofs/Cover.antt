@@ -1,4 +1,4 @@
--- Laws of specs/Flags.antt: what a table that covers all that may act says of a group that is not raised, and what keeps it so. Assumes nothing.
+-- Laws of specs/Groups.antt: what a table that covers all that may act says of a group that is not raised, and what keeps it so. Assumes nothing.
 use mathlib.Core.Bool.{Bool, true, false, not, _||_, true≢false}
 use mathlib.Core.Logic.{_⊎_, inl, inr}
 use mathlib.Core.Path.{_≡_, refl, sym, ap, subst, _∙_}

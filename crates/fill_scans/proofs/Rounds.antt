@@ -1,4 +1,4 @@
--- What the loops of `scans` go by: groups of a row that are not raised change nothing, and slabs end as they would have where cells were set before their turn. Assumes nothing.
+-- What the loops of `fill_scans` go by: groups of a row that are not raised change nothing, and slabs end as they would have where cells were set before their turn. Assumes nothing.
 use mathlib.Core.Bool.{Bool, true, false, not}
 use mathlib.Core.Path.{_≡_, refl, sym, ap, subst, _∙_}
 use mathlib.Core.List.{List}

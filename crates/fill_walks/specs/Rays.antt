@@ -1,4 +1,4 @@
--- What the loops of `spread` say to each other: a walk by cell numbers, a stride at a time. proofs/Rays.antt joins it to walks by cells. Definitions only.
+-- What the loops of `fill_walks` say to each other: a walk by cell numbers, a stride at a time. proofs/Rays.antt joins it to walks by cells. Definitions only.
 use mathlib.Core.Bool.{cond}
 use mathlib.Core.List.{List, [], _∷_}
 use Prim.Native.Nat.{ℕ, zero, suc, _+_, _*_, _-_, _≤_, _<_, min}

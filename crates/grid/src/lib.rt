@@ -39,34 +39,48 @@ pub const SURFACE: u8 = 8;
 pub const BAD_COUNT: u8 = 1;
 
 pub const NO_POINTS: u8 = 2;
+
 // A number is NaN, infinite or too large.
 pub const BAD_NUMBER: u8 = 3;
+
 // A triangle names a missing point, or an entry a missing triangle.
 pub const MISSING_NAME: u8 = 4;
+
 // A cell size, a scale or its reciprocal.
 pub const BAD_SIZE: u8 = 5;
 
 pub const BAD_RESOLUTION: u8 = 6;
+
 // By resolution: the points lie too near each other.
 pub const NO_EXTENT: u8 = 7;
+
 // No cells along an axis, or too many.
 pub const BAD_AXIS: u8 = 8;
+
 // A label buffer's length is not the number of cells.
 pub const BAD_BUFFER: u8 = 9;
+
 // A triangle's vertex falls on no cell.
 pub const OFF_GRID: u8 = 10;
+
 // A label that the call does not take.
 pub const BAD_LABEL: u8 = 11;
+
 // A cell, an axis, a plane's index or a step.
 pub const OUT_OF_RANGE: u8 = 12;
+
 // Opening a cell that is no surface, or closing one that is.
 pub const WRONG_KIND: u8 = 13;
+
 // An output is too short, or there are too many pairs.
 pub const NO_ROOM: u8 = 14;
+
 // The ends of parts, or a range of a list.
 pub const BAD_RANGE: u8 = 15;
+
 // Of the program's input: a wrong mark or order, an unknown way or mode, bytes after the end.
 pub const BAD_RECORD: u8 = 16;
+
 // Of the program's input: it stops too soon.
 pub const CUT_INPUT: u8 = 17;
 

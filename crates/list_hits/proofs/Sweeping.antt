@@ -20,7 +20,7 @@ use Rattle.grid.specs.declared.Block.{Block}
 use Rattle.grid.specs.declared.Stretch.{Stretch}
 use Rattle.marking_mesh.specs.Mesh.{triangles}
 use Rattle.marking_mesh.specs.Ranges.{between, holds}
-use Rattle.marking_cuts.specs.Intervals.{Cut, acrossY, acrossZ, restAlongK}
+use Rattle.marking_cuts.specs.Cuts.{Cut, acrossY, acrossZ, restAlongK}
 use Rattle.marking_cuts.proofs.Laws.{slab-all, kept-slab}
 use Rattle.marking.specs.Marked.{hits}
 use Rattle.marking.specs.Painted.{leftIn, one, AxesLeave}

@@ -11,7 +11,7 @@ use Rattle.grid.specs.declared.Stretch.{Stretch}
 use Rattle.marking_mesh.specs.Ranges.{between}
 use Rattle.touch.specs.declared.Bands.{Bands}
 use Rattle.touch.specs.Bands.{keptAll}
-use Rattle.marking_cuts.specs.Intervals.{restAlongK}
+use Rattle.marking_cuts.specs.Cuts.{restAlongK}
 use Rattle.marking.specs.Marked.{hits}
 use Rattle.marking.specs.Painted.{one}
 use Rattle.order.specs.Order.{chosen}

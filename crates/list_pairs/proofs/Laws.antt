@@ -1,4 +1,4 @@
--- What the contract of `list_pairs` says: its numbers, that a refusal leaves every number, that two results coincide, and that a record's range is its cell's part of the list. Assumes nothing.
+-- What the contract of `list_pairs` says: its numbers, that a refusal leaves every number, that two results coincide, and that a record's range is its cell's slice of the list. Assumes nothing.
 use mathlib.Core.Path.{_≡_, sym, _∙_, refl, ap}
 use mathlib.Core.List.{List, [], _∷_, _++_}
 use Prim.Native.Nat.{ℕ, _*_, _≤_, suc, _-_, _+_, _<_}

@@ -1,4 +1,4 @@
--- Pass after pass: the records written, the triangles of each counted, the places laid, the triangles placed; and what stands in the two outputs then. Assumes nothing.
+-- Step after step: the records written, the triangles of each counted, the places laid, the triangles placed; and what stands in the two outputs then. Assumes nothing.
 use mathlib.Core.Bool.{Bool, true, false, _&&_}
 use mathlib.Core.Logic.{_⊎_, inl, inr, ⊎-elim}
 use mathlib.Core.Path.{_≡_, refl, sym, ap, subst, _∙_}

@@ -1,4 +1,4 @@
--- Laws of specs/Rows.antt: a pass that gives nothing, one pass and then another, and what is left of the room. Assumes nothing.
+-- Laws of specs/Rows.antt: a round that gives nothing, one and then another, and what is left of the room. Assumes nothing.
 use mathlib.Core.Bool.{Bool, true, false, cond, _&&_, _||_}
 use mathlib.Core.Logic.{_⊎_, inl, inr, ⊎-elim}
 use mathlib.Core.Path.{_≡_, refl, sym, ap, subst, _∙_}

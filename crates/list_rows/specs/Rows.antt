@@ -1,4 +1,4 @@
--- What a pass of `list_pairs` does to the records that a triangle goes to, over the first n records of a slice. Definitions only.
+-- What a round of `list_pairs` does to the records that a triangle goes to, over the first n records of a slice. Definitions only.
 use mathlib.Core.Bool.{Bool, true, false, cond, _&&_}
 use mathlib.Core.Logic.{_⊎_}
 use mathlib.Core.Path.{_≡_}
@@ -43,7 +43,7 @@ pub record PlacedIn (n : ℕ) (g : ℕ → List ℕ) (o before after : List ℕ)
   pub there : (p : ℕ) → p < n → (x : ℕ) → x < length (g p) → getD after (endAt o p + x) 0 ≡ getD (g p) x 0
   pub others : (y : ℕ) → ((p : ℕ) → p < n → (y < endAt o p) ⊎ (endAt o p + length (g p) ≤ y)) → getD after y 0 ≡ getD before y 0
 
--- a pass that places, or does not
+-- a round that places, or does not
 abbrev pub Given : Bool → ℕ → (ℕ → List ℕ) → List ℕ → List ℕ → List ℕ → Type 0
 Given true n g o before after = PlacedIn n g o before after
 Given false n g o before after = after ≡ before

@@ -23,7 +23,7 @@ use Rattle.grid.specs.declared.Block.{Block}
 use Rattle.marking_mesh.specs.Mesh.{isCandidate}
 use Rattle.marking_mesh.specs.Ranges.{BlockOf, between, holds}
 use Rattle.marking_mesh.proofs.Laws.{block-test}
-use Rattle.marking_cuts.specs.Intervals.{Cut, Clipped, axesLeave, acrossX, acrossY, restOfRow}
+use Rattle.marking_cuts.specs.Cuts.{Cut, Clipped, axesLeave, acrossX, acrossY, restOfRow}
 use Rattle.marking_cuts.proofs.Laws.{layer-all, kept-axes, kept-x, kept-y}
 use Rattle.marking.specs.Painted.{Painted, leftIn, one, rowOf, layerOf, AxesLeave, RowRest}
 

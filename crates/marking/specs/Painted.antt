@@ -15,7 +15,7 @@ use Rattle.grid.specs.declared.Stretch.{Stretch}
 use Rattle.grid.specs.declared.Block.{Block}
 use Rattle.grid.specs.Labels.{SURFACE}
 use Rattle.marking_mesh.specs.Ranges.{Named, OnGrid, between, holds}
-use Rattle.marking_cuts.specs.Intervals.{axesLeave, restOfRow}
+use Rattle.marking_cuts.specs.Cuts.{axesLeave, restOfRow}
 use Rattle.marking.specs.declared.Sweep.{Sweep}
 use Rattle.marking.specs.Marked.{hits}
 

@@ -1,4 +1,4 @@
--- Laws of specs/Intervals.antt: where a rising line passes a number, what a cut leaves, cuts one after another, and a band's cells as a line. Assumes nothing.
+-- Laws of specs/Cuts.antt: where a rising line passes a number, what a cut leaves, cuts one after another, and a band's cells as a line. Assumes nothing.
 use mathlib.Core.Bool.{Bool, true, false, not, _&&_, _||_, and-assoc, and-comm, and-false}
 use mathlib.Core.Logic.{⊎-elim}
 use mathlib.Core.Path.{_≡_, refl, sym, ap, subst, _∙_}
@@ -23,7 +23,7 @@ use Rattle.touch.proofs.Laws.{signed, axes-are, products-are}
 use Rattle.grid.specs.declared.Stretch.{Stretch}
 use Rattle.grid.specs.declared.Block.{Block}
 use Rattle.marking_mesh.specs.Ranges.{between, holds}
-use Rattle.marking_cuts.specs.Intervals.{lies, Cut, Rising, First, Past, Clipped, onI, onJ, onK, acrossX, acrossY, restOfRow, axesLeave, acrossZ, restAlongK}
+use Rattle.marking_cuts.specs.Cuts.{lies, Cut, Rising, First, Past, Clipped, onI, onJ, onK, acrossX, acrossY, restOfRow, axesLeave, acrossZ, restAlongK}
 
 -- ---- tests
 

@@ -1,1 +1,1 @@
-pub mod Intervals
+pub mod Cuts

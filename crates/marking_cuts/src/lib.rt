@@ -8,7 +8,7 @@ ghost use lib.IntN.{pos, _*ℤ_};
 ghost use lib.Signed.{leZ};
 ghost use Rattle.ints.specs.Bound.{In};
 ghost use Rattle.touch.specs.Bands.{BandFits, ThreeFit, Axial, BandsFit};
-ghost use Rattle.marking_cuts.specs.Intervals.{lies, Cut, Rising, First, Past, Clipped, onI, onJ, onK, acrossX, acrossY, restOfRow, acrossZ, restAlongK};
+ghost use Rattle.marking_cuts.specs.Cuts.{lies, Cut, Rising, First, Past, Clipped, onI, onJ, onK, acrossX, acrossY, restOfRow, acrossZ, restAlongK};
 use grid::Block;
 use grid::Stretch;
 use touch::Band;

@@ -1,4 +1,4 @@
--- Laws of the specs of `mesh`: what a vertex that falls on a cell is, what the checks say of a mesh, and a block's cells. Assumes nothing.
+-- Laws of the specs of `marking_mesh`: what a vertex that falls on a cell is, what the checks say of a mesh, and a block's cells. Assumes nothing.
 use mathlib.Core.Path.{_≡_, refl, sym, ap, _∙_}
 use mathlib.Core.Bool.{Bool, true, false, _&&_, cond, true≢false}
 use mathlib.Core.Logic.{_⊎_, inl, inr, ⊎-elim}

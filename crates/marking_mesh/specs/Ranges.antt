@@ -1,4 +1,4 @@
--- What the functions of `mesh` ask and answer of each other. Definitions only.
+-- What the functions of `marking_mesh` ask and answer of each other. Definitions only.
 use mathlib.Core.Bool.{Bool, true, _&&_}
 use mathlib.Core.Path.{_≡_}
 use mathlib.Core.List.{List}

@@ -11,8 +11,8 @@ use Rattle.order.specs.Output.{roomFault, over}
 use Rattle.planes.specs.declared.Planes.{Planes}
 use Rattle.planes.specs.declared.Planing.{Planing}
 use Rattle.planes.specs.declared.Planing.the-variants.{Planned, Refused}
-pub use Rattle.planes_range.specs.Axial.{axisFault, outOfRange, planeRangeFault, firstPlane, lastPlane, pastPlane, planeCount, planesFault}
-unfoldable pub use Rattle.planes_range.specs.Axial.{planeAt, planesOf}
+pub use Rattle.planes_range.specs.PlaneRange.{axisFault, outOfRange, planeRangeFault, firstPlane, lastPlane, pastPlane, planeCount, planesFault}
+unfoldable pub use Rattle.planes_range.specs.PlaneRange.{planeAt, planesOf}
 
 -- 01's number and values for each case of `Planing`
 abbrev pub outcomeOfPlanes : Planing → Outcome Planes

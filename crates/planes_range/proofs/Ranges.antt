@@ -1,4 +1,4 @@
--- Laws of specs/Axial.antt: what no fault says, and the planes one after the other. Assumes nothing.
+-- Laws of specs/PlaneRange.antt: what no fault says, and the planes one after the other. Assumes nothing.
 use mathlib.Core.Bool.{Bool, true, false, cond, _||_}
 use mathlib.Core.List.{List, [], _∷_, _++_}
 use mathlib.Core.Path.{_≡_, refl, ap, _∙_}
@@ -14,7 +14,7 @@ use Rattle.grid.specs.declared.Placement.{Placement}
 use Rattle.grid.specs.Answers.{_andThen_}
 use Rattle.grid.proofs.Checks.{passed, both-fine, or-false}
 use Rattle.marking_mesh.specs.Faults.{originFault, lentFault}
-use Rattle.planes_range.specs.Axial.{axisFault, outOfRange, planeRangeFault, firstPlane, pastPlane, planeCount, planeAt, planesOf, planesFault}
+use Rattle.planes_range.specs.PlaneRange.{axisFault, outOfRange, planeRangeFault, firstPlane, pastPlane, planeCount, planeAt, planesOf, planesFault}
 
 pub axis-fine : (axis : ℕ) → axisFault axis ≡ Fine → axis ≤ 2
 axis-fine axis h = ltb-false 2 axis (passed (ltb 2 axis) 12 0 Fine h .0)

@@ -1,1 +1,1 @@
-pub mod Axial
+pub mod PlaneRange

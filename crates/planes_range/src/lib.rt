@@ -4,7 +4,7 @@ ghost use Prim.Native.Nat.{_+_, _≤_, _<_};
 ghost use lib.Ieee.{nan};
 ghost use lib.ListN.{length};
 ghost use Rattle.order.specs.Output.{Written};
-ghost use Rattle.planes_range.specs.Axial.{axisFault, outOfRange, planeRangeFault, firstPlane, pastPlane, planeAt, planesOf, planesFault};
+ghost use Rattle.planes_range.specs.PlaneRange.{axisFault, outOfRange, planeRangeFault, firstPlane, pastPlane, planeAt, planesOf, planesFault};
 use grid::Checked;
 use grid::Placement;
 

@@ -13,7 +13,7 @@ use Rattle.program_summary.specs.declared.Summary.{Summary}
 use Rattle.program_summary.proofs.Once.{summary-one}
 use Rattle.program.specs.declared.Writing.{Writing}
 use Rattle.program.specs.declared.Writing.the-variants.{Wrote, Refused}
-use Rattle.program.specs.Records.{outcome, text, textAnswer, textBuffer, Runs}
+use Rattle.program.specs.Program.{outcome, text, textAnswer, textBuffer, Runs}
 
 -- ---- two results coincide
 

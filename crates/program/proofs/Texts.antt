@@ -10,7 +10,7 @@ use Rattle.order.specs.Output.{over}
 use Rattle.program_text.specs.Text.{line, PutText}
 use Rattle.program_text.proofs.Laws.{line-most}
 use Rattle.program_summary.specs.declared.Summary.{Summary}
-use Rattle.program.specs.Records.{cellsWord, outsideWord, insideWord, surfaceWord, leftWord, scansWord, refusedWord, text}
+use Rattle.program.specs.Program.{cellsWord, outsideWord, insideWord, surfaceWord, leftWord, scansWord, refusedWord, text}
 
 pub text-most : (o : Outcome Summary) → length (text o) ≤ 256
 text-most (refuses n place) = omega (arith, line-most refusedWord (n ∷ []))

@@ -4,7 +4,7 @@ ghost use lib.ListN.{length};
 ghost use Rattle.grid.specs.Answers.{answers};
 ghost use Rattle.program_text.specs.Text.{PutText};
 ghost use Rattle.program_summary.specs.Summary as summary;
-ghost use Rattle.program.specs.Records.{outcome, text, copyAnswer, copyBuffer, textAnswer, textBuffer, Runs};
+ghost use Rattle.program.specs.Program.{outcome, text, copyAnswer, copyBuffer, textAnswer, textBuffer, Runs};
 use grid::Checked;
 use grid::Refusal;
 use program_summary::Summary;

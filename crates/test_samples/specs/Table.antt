@@ -24,7 +24,7 @@ use Rattle.fill.specs.declared.Mode.the-variants.{Flood, Cavities}
 use Rattle.fill.specs.Modes.{fillFault, Fills}
 use Rattle.program_summary.specs.declared.Summary.{Summary}
 use Rattle.program_summary.specs.Summary.{Summarizes}
-use Rattle.program.specs.Records.{text}
+use Rattle.program.specs.Program.{text}
 use Rattle.edits.specs.Edits.{Edit, opening, closing}
 use Rattle.edits.specs.History.{Call}
 

@@ -1,7 +1,7 @@
 -- `capi_flat::of_writing` meets its contract: case by case. Assumes nothing.
 use mathlib.Core.Path.{sym, ap}
 use Rattle.program.specs.declared.Writing.{Writing}
-use Rattle.program.specs.Records.{outcome}
+use Rattle.program.specs.Program.{outcome}
 use Rattle.capi_flat.specs.Flat.{flatOf}
 use borrow.Author.Needs.{needs}
 use Rattle.capi_flat.proofs.of_writing.Statement.{statement}

@@ -9,7 +9,7 @@ use Rattle.grid.specs.declared.Checked.the-variants.{Fine}
 use Rattle.grid.specs.Grid.{at}
 use Rattle.grid.proofs.Cells.{num-lt}
 use Rattle.grid.proofs.Checks.{fault-here, fault-not}
-use Rattle.edits_checks.specs.Editable.{wrongKind}
+use Rattle.edits_checks.specs.Checks.{wrongKind}
 use Rattle.edits_checks.proofs.Laws.{in-grid}
 use borrow.Author.Needs.{needs}
 use Rattle.edits_checks.proofs.cell_fault.Statement.{statement}

@@ -8,7 +8,7 @@ use Rattle.grid.specs.declared.LabelSet.{LabelSet}
 use Rattle.grid.specs.Answers.{_andThen_}
 use Rattle.grid.specs.Checks.{mapFault}
 use Rattle.grid.proofs.Checks.{map-fine}
-use Rattle.edits_checks.specs.Editable.{mapLabels, cellFault}
+use Rattle.edits_checks.specs.Checks.{mapLabels, cellFault}
 use borrow.Author.Needs.{needs}
 use Rattle.edits_checks.proofs.edit_fault.Statement.{statement}
 use Rattle.edits_checks.proofs.edit_fault.Tie as tie

@@ -1,7 +1,7 @@
 -- `edits_checks::wrong_kind` meets its contract. Assumes nothing.
 use mathlib.Core.Bool.{Bool}
 use mathlib.Core.Path.{sym, ap}
-use Rattle.edits_checks.specs.Editable.{wrongKind}
+use Rattle.edits_checks.specs.Checks.{wrongKind}
 use Rattle.edits_checks.proofs.wrong_kind.Statement.{statement}
 use Rattle.edits_checks.proofs.wrong_kind.Tie as tie
 

@@ -15,7 +15,7 @@ use Rattle.touch.proofs.Meaning.{own-cell}
 use Rattle.touch.proofs.Laws.{bands-fit, bands-touch}
 use Rattle.marking_mesh.specs.Mesh.{triangleOf, isCandidate}
 use Rattle.marking_mesh.specs.Ranges.{OnCells, holds}
-use Rattle.marking_cuts.specs.Intervals.{axesLeave}
+use Rattle.marking_cuts.specs.Cuts.{axesLeave}
 use Rattle.marking_cuts.proofs.Laws.{kept-axes}
 use Rattle.marking_mesh.proofs.Laws.{on-cells, on-vertex, corners, block-test, ends-in, own-cell-of, own-in, own-is-candidate}
 use Rattle.marking.specs.Marked.{hits}

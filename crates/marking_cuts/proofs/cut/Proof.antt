@@ -8,7 +8,7 @@ use mir.Syntax.{w64}
 use mir.Val.{toZ, ofZ}
 use Rattle.ints.specs.Bound.{arg, negate, v-in, v-negate, fits}
 use Rattle.marking_cuts.proofs.Laws.{rising, rising-back, rising-is, rising-arg, level, lies-level, lies-back, cut-is, cut-same, cut-all, cut-nothing}
-use Rattle.marking_cuts.specs.Intervals.{lies}
+use Rattle.marking_cuts.specs.Cuts.{lies}
 use Rattle.marking_cuts.proofs.cut.Statement.{statement}
 use Rattle.marking_cuts.proofs.cut.Tie as tie
 

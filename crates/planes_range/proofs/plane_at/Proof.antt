@@ -2,7 +2,7 @@
 use borrow.Author.Needs.{needs}
 use mathlib.Core.Path.{ap}
 use lib.Ieee.{neg, ofBits}
-use Rattle.planes_range.specs.Axial.{planeAt}
+use Rattle.planes_range.specs.PlaneRange.{planeAt}
 use Rattle.planes_range.proofs.plane_at.Statement.{statement}
 use Rattle.planes_range.proofs.plane_at.Tie as tie
 

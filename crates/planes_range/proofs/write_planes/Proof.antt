@@ -9,7 +9,7 @@ use lib.ListN.{set}
 use Rattle.order.specs.Output.{Written}
 use Rattle.order.proofs.Lists.{front-more}
 use Rattle.order.proofs.Outputs.{written-none}
-use Rattle.planes_range.specs.Axial.{planesOf}
+use Rattle.planes_range.specs.PlaneRange.{planesOf}
 use Rattle.planes_range.proofs.Ranges.{planes-length, planes-none, planes-more}
 use Rattle.planes_range.proofs.write_planes.Statement.{statement}
 use Rattle.planes_range.proofs.write_planes.Tie as tie

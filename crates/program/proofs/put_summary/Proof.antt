@@ -5,7 +5,7 @@ use mathlib.Core.List.{_∷_, [], _++_}
 use mathlib.Core.Path.{_∙_}
 use Rattle.program_text.specs.Text.{line}
 use Rattle.program_text.proofs.Laws.{put-then, line-most}
-use Rattle.program.specs.Records.{cellsWord, outsideWord, insideWord, surfaceWord, leftWord, scansWord}
+use Rattle.program.specs.Program.{cellsWord, outsideWord, insideWord, surfaceWord, leftWord, scansWord}
 use Rattle.program.proofs.put_summary.Statement.{statement}
 use Rattle.program.proofs.put_summary.Tie as tie
 

@@ -4,7 +4,7 @@ use mathlib.Core.Path.{sym, ap}
 use Rattle.program_summary.specs.declared.Summing.{Summing}
 use Rattle.program_summary.specs.Summary as summary
 use Rattle.program_text.proofs.Laws.{put-as}
-use Rattle.program.specs.Records.{text}
+use Rattle.program.specs.Program.{text}
 use Rattle.program.proofs.put_text.Statement.{statement}
 use Rattle.program.proofs.put_text.Tie as tie
 

@@ -6,7 +6,7 @@ use mathlib.Core.Path.{sym, ap, _∙_}
 use Prim.Native.Nat.{ℕ}
 use lib.Seq.{length-take-le}
 use Rattle.program_summary.specs.Summary as summary
-use Rattle.program.specs.Records.{text, copyAnswer, copyBuffer}
+use Rattle.program.specs.Program.{text, copyAnswer, copyBuffer}
 use Rattle.program.proofs.Texts.{text-most, front-text}
 use Rattle.program.proofs.write_text.Statement.{statement}
 use Rattle.program.proofs.write_text.Tie as tie

@@ -43,14 +43,14 @@ count-kept v (x ∷ m) (y ∷ f) e h =
     (h 0 (omega arith))
 
 -- where every label d becomes v
-pub count-turned : (v d : ℕ) → (d ≡ v → ⊥) → (m f : List ℕ) → length f ≡ length m → ((i : ℕ) → i < length m → getD f i 0 ≡ cond (eqb (getD m i 0) d) v (getD m i 0))
+pub count-relabelled : (v d : ℕ) → (d ≡ v → ⊥) → (m f : List ℕ) → length f ≡ length m → ((i : ℕ) → i < length m → getD f i 0 ≡ cond (eqb (getD m i 0) d) v (getD m i 0))
     → countOf v f ≡ countOf v m + countOf d m
 unfolding count
-count-turned v d z [] [] e h = refl
-count-turned v d z [] (y ∷ f) e h = omega arith
-count-turned v d z (x ∷ m) [] e h = omega arith
-count-turned v d z (x ∷ m) (y ∷ f) e h =
-    let t = count-turned v d z m f (omega (arith, e)) (λ i g. h (suc i) (omega arith)) in
+count-relabelled v d z [] [] e h = refl
+count-relabelled v d z [] (y ∷ f) e h = omega arith
+count-relabelled v d z (x ∷ m) [] e h = omega arith
+count-relabelled v d z (x ∷ m) (y ∷ f) e h =
+    let t = count-relabelled v d z m f (omega (arith, e)) (λ i g. h (suc i) (omega arith)) in
     dec-eq x d
     (λ q. let new : y ≡ v = h 0 (omega arith) ∙ ap (λ (b : Bool). cond b v x) (eq-eqb x d q) in omega (arith, t, is-one y v new, is-one x d q, not-one x v (λ w. z (sym q ∙ w))))
     (λ n. let same : y ≡ x = h 0 (omega arith) ∙ ap (λ (b : Bool). cond b v x) (ne-eqb x d n) in omega (arith, t, ap (λ (u : ℕ). equal u v) same, not-one x d n))
