@@ -1,4 +1,6 @@
 // Boxes: the cells of one label as points and triangles, eight corners and twelve triangles a cell.
+#![tactic(auto)]
+
 ghost use Rattle.std.specs.Prelude.{◌≡◌, ◌*◌, ◌≤◌, length};
 ghost use Rattle.std.specs.Float.{nan};
 ghost use Rattle.grid.specs.Counts.{count_of};
@@ -9,7 +11,7 @@ ghost use Rattle.boxes.specs.Boxes.{asked_fault, boxes_fault, rooms_fault, box_c
 use grid::{Axes, Cell, Checked, Placement, Refusal, SURFACE};
 
 // What boxes answers: how many cells there are; their points and triangles are in the outputs.
-#[derive(Drop)]
+#[derive(Clone, Copy)]
 pub enum Boxing {
     Boxed(usize),
     Refused(Refusal),

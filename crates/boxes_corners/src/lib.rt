@@ -1,4 +1,6 @@
 // The box of a cell: its eight corners and its twelve triangles.
+#![tactic(auto)]
+
 ghost use Rattle.std.specs.Prelude.{[], ◌≡◌, ◌+◌, ◌≤◌, ◌<◌, length, get_or};
 ghost use Rattle.std.specs.Float.{nan};
 ghost use Rattle.order.specs.Output.{Written};

@@ -1,6 +1,8 @@
 // The C boundary: one function for each call of the library, over numbers, lent slices and structs by
 // value; C gives a slice as a pointer and a length. Each answers whatever its types admit, as its call
 // does, and cites the same definitions.
+#![tactic(auto)]
+
 ghost use Rattle.std.specs.Prelude.{◌≡◌, take, drop};
 ghost use Rattle.grid.specs.Answers.{Ends};
 ghost use Rattle.grid.specs.Flood.{Flooded};

@@ -1,5 +1,7 @@
 // What passes the C boundary: structs by value of plain numbers, and how each answer of the library, an
 // enum, becomes one.
+#![tactic(auto)]
+
 ghost use Rattle.std.specs.Prelude.{◌≡◌};
 ghost use Rattle.grid.specs.Answers.{refuses};
 ghost use Rattle.sizing.specs.Sizing as sizings;
@@ -30,7 +32,7 @@ use program_summary::Summing;
 // ---- what is lent
 
 #[repr(C)]
-#[derive(Drop)]
+#[derive(Clone, Copy)]
 pub struct Axes {
     pub r0: usize,
     pub r1: usize,
@@ -38,7 +40,7 @@ pub struct Axes {
 }
 
 #[repr(C)]
-#[derive(Drop)]
+#[derive(Clone, Copy)]
 pub struct Cell {
     pub i: usize,
     pub j: usize,
@@ -46,7 +48,7 @@ pub struct Cell {
 }
 
 #[repr(C)]
-#[derive(Drop)]
+#[derive(Clone, Copy)]
 pub struct Placement {
     pub x: f32,
     pub y: f32,
@@ -91,14 +93,14 @@ pub fn to_placement(placement: Placement) -> grid::Placement
 
 // An answer without values: of marking, of classes, of a check.
 #[repr(C)]
-#[derive(Drop)]
+#[derive(Clone, Copy)]
 pub struct Verdict {
     pub number: u8,
     pub place: usize,
 }
 
 #[repr(C)]
-#[derive(Drop)]
+#[derive(Clone, Copy)]
 pub struct Sized {
     pub number: u8,
     pub place: usize,
@@ -107,7 +109,7 @@ pub struct Sized {
 }
 
 #[repr(C)]
-#[derive(Drop)]
+#[derive(Clone, Copy)]
 pub struct Filled {
     pub number: u8,
     pub place: usize,
@@ -118,7 +120,7 @@ pub struct Filled {
 // Of an edit, how many labels changed; of boxes, how many cells there are; of a run, how many bytes were
 // written.
 #[repr(C)]
-#[derive(Drop)]
+#[derive(Clone, Copy)]
 pub struct Counted {
     pub number: u8,
     pub place: usize,
@@ -126,7 +128,7 @@ pub struct Counted {
 }
 
 #[repr(C)]
-#[derive(Drop)]
+#[derive(Clone, Copy)]
 pub struct Listed {
     pub number: u8,
     pub place: usize,
@@ -135,7 +137,7 @@ pub struct Listed {
 }
 
 #[repr(C)]
-#[derive(Drop)]
+#[derive(Clone, Copy)]
 pub struct Planned {
     pub number: u8,
     pub place: usize,
@@ -144,7 +146,7 @@ pub struct Planned {
 }
 
 #[repr(C)]
-#[derive(Drop)]
+#[derive(Clone, Copy)]
 pub struct Parted {
     pub number: u8,
     pub place: usize,
@@ -154,7 +156,7 @@ pub struct Parted {
 
 // The six lines' numbers.
 #[repr(C)]
-#[derive(Drop)]
+#[derive(Clone, Copy)]
 pub struct Summarized {
     pub number: u8,
     pub place: usize,
@@ -168,7 +170,7 @@ pub struct Summarized {
 
 // A slice of a lent list: where it begins there, and how long it is.
 #[repr(C)]
-#[derive(Drop)]
+#[derive(Clone, Copy)]
 pub struct Slice {
     pub start: usize,
     pub length: usize,

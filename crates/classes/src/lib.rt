@@ -1,4 +1,6 @@
 // Classes: which part of a vessel that is cut into parts each triangle belongs to.
+#![tactic(auto)]
+
 ghost use Rattle.std.specs.Prelude.{◌≡◌, ◌≤◌, ◌<◌, length};
 ghost use Rattle.classes.specs.Classes.{begin_of, bad_end, first_bad_end, ends_fault, count_fault, entry_fault, no_class, class_of, with_part, class_fault, NamedBelow, Ended, Classes, Classified, outcome, class_answer, class_buffer};
 
@@ -10,7 +12,7 @@ pub const NO_CLASS: u32 = 4294967294;
 pub const SEVERAL: u32 = 4294967295;
 
 // What classify answers; the classes are in the output.
-#[derive(Drop)]
+#[derive(Clone, Copy)]
 pub enum Classing {
     Classed,
     Refused(Refusal),

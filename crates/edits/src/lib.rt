@@ -1,4 +1,6 @@
 // Opening and closing a cell of a map: which labels change, and how many.
+#![tactic(auto)]
+
 ghost use Rattle.std.specs.Prelude.{◌≡◌, true, false};
 ghost use Rattle.grid.specs.Answers.{Ends};
 ghost use Rattle.grid.specs.Flood.{Flooded};
@@ -10,7 +12,7 @@ ghost use Rattle.edits.specs.Edits.{opening, closing, outcome, edit_fault, Meets
 use grid::{Axes, Cell, Checked, INSIDE, OUTSIDE, Refusal, SURFACE};
 
 // What an edit answers: how many labels changed; the edit itself is in the labels.
-#[derive(Drop)]
+#[derive(Clone, Copy)]
 pub enum Editing {
     Changed(usize),
     Refused(Refusal),

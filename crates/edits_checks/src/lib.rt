@@ -1,4 +1,6 @@
 // The refusals of an opening or a closing of a cell.
+#![tactic(auto)]
+
 ghost use Rattle.std.specs.Prelude.{◌≡◌};
 ghost use Rattle.grid.specs.Answers.{◌and_then◌};
 ghost use Rattle.grid.specs.Checks.{map_fault};

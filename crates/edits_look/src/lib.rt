@@ -1,4 +1,6 @@
 // A look, which writes nothing, for an exit that cells 6 lead to with at most one bend.
+#![tactic(auto)]
+
 ghost use Rattle.std.specs.Prelude.{◌≡◌, true};
 ghost use Rattle.grid.specs.Grid.{num, InGrid, Sheet};
 ghost use Rattle.edits_reach.specs.Reach.{Leads};

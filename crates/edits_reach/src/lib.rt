@@ -1,5 +1,7 @@
 // A trip from one cell through cells of one label, face to face. It needs no memory of its own: the way
 // back lies in the labels.
+#![tactic(auto)]
+
 ghost use Rattle.std.specs.Prelude.{◌≡◌, false, ◌&&◌, not, cond, ◌<◌, eqb, ltb};
 ghost use Rattle.grid.specs.Grid.{num, InGrid, Sound, Sheet, on_border};
 ghost use Rattle.grid.specs.Ways.{room, beside, counter};
@@ -123,7 +125,7 @@ fn opposite(d: u8) -> u8
 }
 
 // The label of a neighbour and its number; at the edge, where there is none, NO_LABEL.
-#[derive(Drop)]
+#[derive(Clone, Copy)]
 pub struct Seen {
     pub label: u8,
     pub n: usize,
@@ -174,7 +176,7 @@ fn onward(met: bool, d: u8) -> u8
 }
 
 // How many cells were set, and whether an exit was met.
-#[derive(Drop)]
+#[derive(Clone, Copy)]
 pub struct Trip {
     pub count: usize,
     pub met: bool,

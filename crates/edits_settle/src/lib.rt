@@ -1,6 +1,8 @@
 // A closing: the neighbours of c, whose number is n, are settled one after the other. One that has a way to the
 // border takes the number of its way as its label, and so does all that the trip to the border met; later
 // trips end there, so that no cell is travelled over twice in search of it. At last the marks are 6 again.
+#![tactic(auto)]
+
 ghost use Rattle.std.specs.Prelude.{◌≡◌, ◌+◌, ◌<◌, ◌≤◌};
 ghost use Rattle.grid.specs.Grid.{num, InGrid, at, Sheet};
 ghost use Rattle.grid.specs.Labels.{OUTSIDE};
@@ -16,7 +18,7 @@ const LAST_MARK: u8 = edits_reach::WAYS - 1;
 const PASSED: usize = 128;
 
 // How many cells became 7, and how many were marked with a label under 6.
-#[derive(Drop)]
+#[derive(Clone, Copy)]
 pub struct SealCounts {
     pub sealed: usize,
     pub marked: usize,

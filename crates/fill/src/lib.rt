@@ -1,4 +1,6 @@
 // The fill: which cells are Outside and which Inside, from the surface cells.
+#![tactic(auto)]
+
 ghost use Rattle.std.specs.Prelude.{◌≡◌, true};
 ghost use Rattle.grid.specs.Answers.{Ends};
 ghost use Rattle.grid.specs.Grid.{Sheet};
@@ -14,7 +16,7 @@ use grid::{
     Refusal, SURFACE, SURFACE_WALK_1, SURFACE_WALK_2, UNDEFINED,
 };
 
-#[derive(Drop)]
+#[derive(Clone, Copy)]
 pub enum Mode {
     SurfaceOnly,
     Flood,
@@ -22,14 +24,14 @@ pub enum Mode {
 }
 
 // How many scans of the whole grid there were, and how many cells are left.
-#[derive(Drop)]
+#[derive(Clone, Copy)]
 pub struct FillCounts {
     pub scans: usize,
     pub left: usize,
 }
 
 // What a fill answers; the fill itself is in the labels.
-#[derive(Drop)]
+#[derive(Clone, Copy)]
 pub enum Filling {
     Filled(FillCounts),
     Refused(Refusal),

@@ -1,6 +1,8 @@
 // Before the cells of a block are visited in their turn: a cell that is to walk, and from which no walk would
 // change anything, is set at once, in memory order, and the table of groups that may act is brought down to
 // those with a cell that may.
+#![tactic(auto)]
+
 ghost use Rattle.std.specs.Prelude.{true, false, cond, ◌||◌, ◌⊎◌, ◌≡◌, ℕ, ◌+◌, ◌*◌, ◌-◌, ◌≤◌, ◌<◌, eqb, length, get_or};
 ghost use Rattle.grid.specs.Grid.{num, InGrid, Sheet};
 ghost use Rattle.grid.specs.Labels.{SURFACE};
@@ -61,14 +63,14 @@ fn acts(l: &[u8], p: Phase, r: Axes, c: Cell, n: usize) -> bool
 }
 
 // What came of some cells of a block: how many are walked by then, and whether one of them may act.
-#[derive(Drop)]
+#[derive(Clone, Copy)]
 struct Progress {
     walked: usize,
     acting: bool,
 }
 
 // The cells of a group: of these slabs, with one j, of these layers.
-#[derive(Drop)]
+#[derive(Clone, Copy)]
 struct Group {
     slabs: Stretch,
     j: usize,

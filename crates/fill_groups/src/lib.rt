@@ -1,6 +1,8 @@
 // Which cells a scan must visit: a table with a byte for each group of cells, 16 along i and 16 along k, that
 // is not 0 where a cell of the group may act. The cells with i = 0 make groups of their own, since walks from
 // there go far, and the groups after them end where a walk of 64 cells does.
+#![tactic(auto)]
+
 ghost use Rattle.std.specs.Prelude.{false, ◌≡◌, ℕ, ◌+◌, ◌*◌, ◌≤◌, ◌<◌, length, get_or};
 ghost use Rattle.fill_groups.specs.Groups.{table_length, place_at, Up, Raises};
 

@@ -1,6 +1,8 @@
 // One phase of a fill: scans over the whole grid until one walked none. A scan goes block by block of slabs;
 // in each, what needs no walk is set first (the crate `fill_early`), and then the groups of cells that may act
 // are visited in their turn (the crate `fill_visits`).
+#![tactic(auto)]
+
 ghost use Rattle.std.specs.Prelude.{◌≡◌, ◌+◌, ◌*◌, ◌-◌, ◌≤◌, ◌<◌};
 ghost use Rattle.grid.specs.Grid.{Sheet};
 ghost use Rattle.fill_walks.specs.Scan.{rowed, slabbed, in_turn, scanned, Countable};

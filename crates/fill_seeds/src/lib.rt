@@ -1,4 +1,6 @@
 // The seeding of a fill: all border cells with label 0 become 1.
+#![tactic(auto)]
+
 ghost use Rattle.std.specs.Prelude.{◌≡◌, ◌+◌, ◌*◌, ◌≤◌, ◌<◌, length};
 ghost use Rattle.grid.specs.Grid.{InGrid, num, Sheet};
 ghost use Rattle.grid.specs.Passes.{Within};

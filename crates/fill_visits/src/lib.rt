@@ -1,5 +1,7 @@
 // Visits of cells in their turn in a scan: each walks, and what it passes is raised in the table of groups
 // that may act (the crate `fill_groups`), so that groups that are not raised can be passed over.
+#![tactic(auto)]
+
 ghost use Rattle.std.specs.Prelude.{◌≡◌, ◌+◌, ◌*◌, ◌-◌, ◌≤◌, ◌<◌};
 ghost use Rattle.grid.specs.Grid.{num, InGrid, Sheet};
 ghost use Rattle.fill_walks.specs.Scan.{walked_from, visited, in_turn, Countable};

@@ -1,5 +1,7 @@
 // The walks of a fill, and what a phase of it is: scans over the whole grid, cell by cell and walk by walk,
 // until a scan walked none. The crate `fill_scans` runs one.
+#![tactic(auto)]
+
 ghost use Rattle.std.specs.Prelude.{true, false, ◌≡◌, ◌+◌, ◌≤◌, ◌<◌, min, length};
 ghost use Rattle.fill_walks.specs.Scan.{is_walker};
 ghost use Rattle.fill_walks.specs.Rays.{ray, Along, walked_along, LineFits, walked_both};
@@ -11,7 +13,7 @@ use grid::SURFACE;
 const WALK_MOST: usize = 64;
 
 // Which surface cells walk in a phase: none, or those with one label.
-#[derive(Drop)]
+#[derive(Clone, Copy)]
 pub enum Walkers {
     Nobody,
     Those(u8),
@@ -19,7 +21,7 @@ pub enum Walkers {
 
 // A phase by its labels: the one that its walks pass, its to-walk label, which a passed cell takes, and its
 // set label; which surface cells walk, and the label that a surface cell takes that a walk meets.
-#[derive(Drop)]
+#[derive(Clone, Copy)]
 pub struct Phase {
     pub pass: u8,
     pub todo: u8,
@@ -63,7 +65,7 @@ pub fn smaller(a: usize, b: usize) -> usize
 }
 
 // How many cells two walks passed, up an axis and down it.
-#[derive(Drop)]
+#[derive(Clone, Copy)]
 pub struct Passed {
     pub up: usize,
     pub down: usize,

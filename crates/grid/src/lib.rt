@@ -1,5 +1,7 @@
 // The ground of every call: axes, cells and their numbers, a grid's placement, refusals, and the
 // checks 8, 9 and 11 that calls share; and how many cells have a label.
+#![tactic(auto)]
+
 ghost use Rattle.std.specs.Prelude.{cond, ◌≡◌, ◌≤◌, length};
 ghost use Rattle.grid.specs.Answers.{fault_at, ◌and_then◌};
 ghost use Rattle.grid.specs.First.{first_not, every};
@@ -87,14 +89,14 @@ pub const CUT_INPUT: u8 = 17;
 pub const AXIS_MOST: usize = 256;
 
 // How many cells the grid has along i, j and k.
-#[derive(Drop)]
+#[derive(Clone, Copy)]
 pub struct Axes {
     pub r0: usize,
     pub r1: usize,
     pub r2: usize,
 }
 
-#[derive(Drop)]
+#[derive(Clone, Copy)]
 pub struct Cell {
     pub i: usize,
     pub j: usize,
@@ -102,14 +104,14 @@ pub struct Cell {
 }
 
 // The places along an axis from one up to, not including, another.
-#[derive(Drop)]
+#[derive(Clone, Copy)]
 pub struct Stretch {
     pub from: usize,
     pub to: usize,
 }
 
 // The cells that have their places in three stretches.
-#[derive(Drop)]
+#[derive(Clone, Copy)]
 pub struct Block {
     pub i: Stretch,
     pub j: Stretch,
@@ -117,7 +119,7 @@ pub struct Block {
 }
 
 // Where a grid stands: its origin, its cells' side, and 1 / side rounded once. They travel together.
-#[derive(Drop)]
+#[derive(Clone, Copy)]
 pub struct Placement {
     pub x: f32,
     pub y: f32,
@@ -127,35 +129,35 @@ pub struct Placement {
 }
 
 // A grid that is laid over points.
-#[derive(Drop)]
+#[derive(Clone, Copy)]
 pub struct Laid {
     pub axes: Axes,
     pub placement: Placement,
 }
 
 // A refusal's number in the table of refusals, and its place.
-#[derive(Drop)]
+#[derive(Clone, Copy)]
 pub struct Refusal {
     pub number: u8,
     pub place: usize,
 }
 
 // What a check finds.
-#[derive(Drop)]
+#[derive(Clone, Copy)]
 pub enum Checked {
     Fine,
     Fault(Refusal),
 }
 
 // The labels from low to high, both included.
-#[derive(Drop)]
+#[derive(Clone, Copy)]
 pub struct LabelRange {
     pub low: u8,
     pub high: u8,
 }
 
 // Which labels a call takes: those of one range and of the other.
-#[derive(Drop)]
+#[derive(Clone, Copy)]
 pub struct LabelSet {
     pub one: LabelRange,
     pub other: LabelRange,

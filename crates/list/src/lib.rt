@@ -1,4 +1,6 @@
 // The cell list without pairs: a record for each cell 7 and 8, in list order.
+#![tactic(auto)]
+
 ghost use Rattle.std.specs.Prelude.{cond, ◌≡◌, ◌+◌, ◌*◌, ◌≤◌, ◌<◌, length};
 ghost use Rattle.grid.specs.Grid.{Sheet};
 ghost use Rattle.order.specs.Order.{row, rows};
@@ -10,14 +12,14 @@ use grid::{Axes, Cell, Checked, INSIDE, Refusal, SURFACE};
 use list_record::CellRecord;
 
 // How many cells are listed, and how many pairs of a cell and a triangle.
-#[derive(Drop)]
+#[derive(Clone, Copy)]
 pub struct ListCounts {
     pub cells: usize,
     pub pairs: usize,
 }
 
 // What a list answers; the list is in the outputs.
-#[derive(Drop)]
+#[derive(Clone, Copy)]
 pub enum Listing {
     Listed(ListCounts),
     Refused(Refusal),

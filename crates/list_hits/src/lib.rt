@@ -1,5 +1,7 @@
 // Each triangle goes to its records: block by block of candidates, and in a block row by row. Where a row's
 // records lie is guessed once for all triangles, and looked for from there.
+#![tactic(auto)]
+
 ghost use Rattle.std.specs.Prelude.{◌≡◌, ◌≤◌, ◌<◌, length};
 ghost use Rattle.grid.specs.Grid.{Sound};
 ghost use Rattle.touch.specs.Bands.{BandsFit};
@@ -70,7 +72,7 @@ pub fn guesses(records: &[u32], n: usize, r: Axes) -> [u32; 65536]
 // ---- a triangle
 
 // A stretch of row (i, j), along k.
-#[derive(Drop)]
+#[derive(Clone, Copy)]
 struct Line {
     i: usize,
     j: usize,

@@ -1,4 +1,6 @@
 // A record of the list by its key, which is list order as a number.
+#![tactic(auto)]
+
 ghost use Rattle.std.specs.Prelude.{◌≡◌, ◌≤◌, ◌<◌};
 ghost use Rattle.order.specs.Order.{key};
 ghost use Rattle.list_lookup.specs.Lookup.{key_at, Table, Behind, Ahead, Window};

@@ -1,5 +1,7 @@
 // The cell list with pairs: all pairs are counted, the records written, each cell's pairs counted in its
 // record, the counts made into places, and the triangle numbers put there.
+#![tactic(auto)]
+
 ghost use Rattle.std.specs.Prelude.{◌≡◌, ◌*◌, ◌≤◌, length};
 ghost use Rattle.grid.specs.Grid.{Sheet};
 ghost use Rattle.marking.specs.Painted.{Ready};

@@ -1,5 +1,7 @@
 // A record of the cell list, which is numbers in a lent slice: this is the only place that knows where
 // they stand. And a cell's slice of the list of triangle numbers, with check 15 of its range.
+#![tactic(auto)]
+
 ghost use Rattle.std.specs.Prelude.{[], ◌≡◌, ◌+◌, ◌*◌, ◌≤◌, ◌<◌, ◌^◌, length};
 ghost use Rattle.order.specs.Output.{Written};
 ghost use Rattle.list_record.specs.Record.{width, record_at, numbers_of, ranged, PutRecord, bad_range, range_fault, list_slice};
@@ -17,7 +19,7 @@ const END_AT: usize = 5;
 
 // A listed cell. `surface` is 1 for a cell 8 and 0 for a cell 7; its triangles are those of the list of
 // triangle numbers from `start` up to, not including, `end`.
-#[derive(Drop)]
+#[derive(Clone, Copy)]
 pub struct CellRecord {
     pub cell: Cell,
     pub surface: u32,

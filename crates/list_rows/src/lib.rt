@@ -1,5 +1,7 @@
 // A triangle is entered at the records of a stretch of a row of cells: each surface cell's gets its number, counted or
 // put in its place.
+#![tactic(auto)]
+
 ghost use Rattle.std.specs.Prelude.{true, cond, ◌≡◌, ◌+◌, ◌*◌, ◌≤◌, ◌<◌, length, set};
 ghost use Rattle.list_record.specs.Record.{width, record_at, ranged, PutRecord};
 ghost use Rattle.list_lookup.specs.Lookup.{Table, Behind, Ahead};
@@ -9,14 +11,14 @@ use list_record::CellRecord;
 
 // A round over all triangles: over how many records, and whether the triangles are placed in the list or only
 // counted.
-#[derive(Drop)]
+#[derive(Clone, Copy)]
 pub struct Round {
     pub cells: usize,
     pub placing: bool,
 }
 
 // A triangle that is entered at the records of its cells, in a round.
-#[derive(Drop)]
+#[derive(Clone, Copy)]
 pub struct Entrant {
     pub round: Round,
     pub triangle: u32,

@@ -1,5 +1,7 @@
 // How many pairs a list has: a surface cell and a triangle that has it as a candidate and touches it. They
 // are counted in 64 bits before anything is written, over the labels, in memory order.
+#![tactic(auto)]
+
 ghost use Rattle.std.specs.Prelude.{cond, ◌≡◌, ◌≤◌, ◌<◌, eqb};
 ghost use Rattle.grid.specs.Grid.{Sheet};
 ghost use Rattle.grid.specs.Labels.{SURFACE};

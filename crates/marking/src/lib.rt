@@ -1,4 +1,6 @@
 // Marking: which cells the steel passes through.
+#![tactic(auto)]
+
 ghost use Rattle.std.specs.Prelude.{◌≡◌, ◌≤◌, ◌<◌, length, replicate};
 ghost use Rattle.grid.specs.Grid.{Sound, Sheet};
 ghost use Rattle.touch.specs.Bands.{BandsFit};
@@ -10,14 +12,14 @@ use grid::{Axes, Block, Cell, Checked, Placement, Refusal, SURFACE, Stretch, UND
 use touch::Bands;
 
 // What marking answers; the marks are in the labels.
-#[derive(Drop)]
+#[derive(Clone, Copy)]
 pub enum Marking {
     Marked,
     Refused(Refusal),
 }
 
 // Where the cells of a triangle lie.
-#[derive(Drop)]
+#[derive(Clone, Copy)]
 pub struct Sweep {
     pub block: Block,
     pub bands: Bands,

@@ -1,5 +1,7 @@
 // The candidates of a triangle: along each axis, the cells from one before the least of its vertices' cells up
 // to, not including, one past the greatest.
+#![tactic(auto)]
+
 ghost use Rattle.std.specs.Prelude.{◌≡◌, true, pos};
 ghost use Rattle.grid.specs.Grid.{Axis, Sound};
 ghost use Rattle.numbers.specs.Rounding.{cell_of};

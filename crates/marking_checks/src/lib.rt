@@ -1,4 +1,6 @@
 // The refusals of lent points, triangles, grid and placement.
+#![tactic(auto)]
+
 ghost use Rattle.std.specs.Prelude.{◌≡◌, true, ℕ, ◌/◌, ◌<◌, ltb};
 ghost use Rattle.grid.specs.Answers.{fault_if};
 ghost use Rattle.grid.specs.declared.Checked.TheVariants.{Fine};

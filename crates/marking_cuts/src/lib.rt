@@ -1,6 +1,8 @@
 // The part of a row of cells that a triangle's bands leave, by its ends. Along an axis the projection of a
 // cell rises or falls by one step a place, so each band leaves the places from one to another, which come
 // by division. What holds of a line of places is said once, for rows along any axis.
+#![tactic(auto)]
+
 ghost use Rattle.std.specs.Prelude.{◌≡◌, true, ◌/◌, ◌+◌, ◌-◌, ◌≤◌, ◌<◌, ◌^◌, pos, ◌*ℤ◌};
 ghost use Rattle.std.specs.Int.Signed.{le_z};
 ghost use Rattle.ints.specs.Bound.{In};

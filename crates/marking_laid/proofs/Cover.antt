@@ -12,7 +12,7 @@ use lib.Ieee.Fits.{down_pos}
 use lib.Ieee.Order.{round_mono}
 use lib.Ieee.Scale.{finite}
 use lib.Ieee.Positive.{num, den, den_pos, between}
-use borrow.Author.Rules.{zero≤}
+use Prim.Native.Nat.{zero-le}
 use borrow.Author.Tests.{ltb-false, leb-true, eqb-true, lt-ltb, le-ltb, le-leb}
 use Rattle.grid.proofs.First.{both_true}
 use Rattle.numbers.specs.declared.Whole.TheVariants.{Of, TooLarge}
@@ -102,7 +102,7 @@ on_cells n (inf s) N u = absurd u.is_plain
 on_cells n (fin true m e) N u = absurd u.is_plain
 on_cells n (fin false m e) N u =
     ap (λ (b : Bool). on_axis (suc n) (whole_units (pick_whole b (Of (pos ((2 * units * (m * up e) + down e) / (2 * down e)))) TooLarge))) (lt-ltb (m * up e) (limit * down e) (low n (m * up e) (down e) N (down_pos e) u.most))
-    ∙ (λ t. le-leb 0 (((2 * units * (m * up e) + down e) / (2 * down e) + half) / units) zero≤ t && lt-ltb (((2 * units * (m * up e) + down e) / (2 * down e) + half) / units) (suc n) (below_cells half n (m * up e) (down e) (lit≤ tt) (down_pos e) u.most) t)
+    ∙ (λ t. le-leb 0 (((2 * units * (m * up e) + down e) / (2 * down e) + half) / units) zero-le t && lt-ltb (((2 * units * (m * up e) + down e) / (2 * down e) + half) / units) (suc n) (below_cells half n (m * up e) (down e) (lit≤ tt) (down_pos e) u.most) t)
   where
     low : (n t d : ℕ) → n ≤ 255 → 0 < d → t * 4 ≤ (4 * n + 1) * d → t < 2 ^ 40 * d
     low n t d N D h = let a = mul-le-mul_right d N in omega arith
@@ -137,7 +137,7 @@ gap true a true b = b - a
 gap_more : (u : Bool) (z : ℕ) (s : Bool) (x : ℕ) (t : Bool) (y : ℕ) → Ordered u z s x → Ordered s x t y → gap s x u z ≤ gap t y u z
 gap_more false z false x false y h k = omega arith
 gap_more false z false x true y h k = omega (arith, k.0)
-gap_more false z true x t y h k = le_trans (le_of_eq (none z x h.0 h.1)) zero≤
+gap_more false z true x t y h k = le_trans (le_of_eq (none z x h.0 h.1)) zero-le
   where
     none : (z x : ℕ) → z ≡ 0 → x ≡ 0 → x + z ≡ 0
     none z x p q = omega arith

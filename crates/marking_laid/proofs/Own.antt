@@ -16,7 +16,7 @@ use lib.Pow.{pow_pos}
 use lib.Ieee.Back.{round_whole}
 use lib.Ieee.Scale.{finite, round_same}
 use lib.Ieee.Positive.{num, den, den_pos, first_pos, positive, between, above, above_of_le, le→cross, value→cross}
-use borrow.Author.Rules.{zero≤}
+use Prim.Native.Nat.{zero-le}
 use borrow.Author.Tests.{lt-ltb, leb-true, not-false}
 use Rattle.grid.specs.declared.Checked.TheVariants.{Fine}
 use Rattle.grid.specs.Answers.{answers, ◌and_then◌}
@@ -51,7 +51,7 @@ extent_most x w = subst (λ (y : Float). num y ≤ 2 ^ 21 * den y) (sym w.is) w.
 
 -- -0 is covered by any scale
 none_covered : (s d : Float) (n : ℕ) → (k : ℤ) × (d ≡ fin true 0 k) → num d * den s * 8 ≤ (8 * n + 1) * (num s * den d)
-none_covered s d n (k, e) = rw e (le_trans (le_of_eq (none (up k) (den s))) zero≤)
+none_covered s d n (k, e) = rw e (le_trans (le_of_eq (none (up k) (den s))) zero-le)
   where
     none : (a b : ℕ) → 0 * a * b * 8 ≡ 0
     none a b = omega arith
@@ -95,7 +95,7 @@ ceil_above (fin true m e) n p h = absurd p
 ceil_above (fin false m e) n p h = go (ltb (m * up e) (limit * down e)) (m * up e) (down e) (down_pos e) h
   where
     go : (t : Bool) (a d : ℕ) → 0 < d → pick_whole t (Of (neg_ℤ (floor_z (neg_ℤ (pos a)) d))) TooLarge ≡ Of (pos n) → a ≤ n * d
-    go true zero d D h = zero≤
+    go true zero d D h = zero-le
     go true (suc a) d D h =
         let k : suc (a / d) ≡ n = same_count (suc (a / d)) n h in
         let l : a < a / d * d + d = lt-div-mul-add D in

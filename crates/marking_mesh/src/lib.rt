@@ -1,4 +1,6 @@
 // A mesh on a grid: a vertex in units of a cell's side, places on the grid, a triangle's vertices.
+#![tactic(auto)]
+
 ghost use Rattle.std.specs.Prelude.{◌≡◌, ◌<◌};
 ghost use Rattle.grid.specs.Grid.{Axis, Sound};
 ghost use Rattle.sizing.specs.Sizing.{points};

@@ -1,5 +1,7 @@
 // Whole numbers of an f32, from its bits: the ceiling, the truncation, and the number of units of a
 // cell's side that is nearest. Each has an answer for every f32.
+#![tactic(auto)]
+
 ghost use Rattle.std.specs.Prelude.{◌≡◌, ◌*◌, ◌^◌, ◌≤◌, ◌<◌};
 ghost use Rattle.numbers.specs.Rounding.{signed, floor_z, floor_times, ceil_of, trunc_of, nearest_of, units, cell_of};
 
@@ -11,7 +13,7 @@ pub const SIDE: i64 = 1 << SPLITS;
 
 pub const HALF: i64 = 1 << (SPLITS - 1);
 
-#[derive(Drop)]
+#[derive(Clone, Copy)]
 pub enum Whole {
     Of(i64),
     // 2 ^ 40 or more in magnitude, an infinity too

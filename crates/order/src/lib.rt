@@ -1,5 +1,7 @@
 // What the calls share that write lists: list order, the labels that they take, and refusal 14 of a
 // lent output.
+#![tactic(auto)]
+
 ghost use Rattle.std.specs.Prelude.{◌≡◌};
 ghost use Rattle.grid.specs.Grid.{Sound, InGrid};
 ghost use Rattle.order.specs.Order.{next_cell, AtOrPast, known_labels};

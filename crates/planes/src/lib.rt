@@ -1,4 +1,6 @@
 // Planes: those along one axis, and points split by such a plane.
+#![tactic(auto)]
+
 ghost use Rattle.std.specs.Prelude.{true, ◌≡◌, ◌+◌, ◌*◌, ◌≤◌, ◌<◌, length};
 ghost use Rattle.std.specs.Float.{nan};
 ghost use Rattle.sizing.specs.Points.{bounded};
@@ -13,14 +15,14 @@ use grid::{Checked, Placement, Refusal};
 // ---- planes
 
 // The planes of an answer: so many, the first at this index; each further one is at the next.
-#[derive(Drop)]
+#[derive(Clone, Copy)]
 pub struct Planes {
     pub first: usize,
     pub count: usize,
 }
 
 // What planes answers; their d are in the output.
-#[derive(Drop)]
+#[derive(Clone, Copy)]
 pub enum Planing {
     Planned(Planes),
     Refused(Refusal),
@@ -66,21 +68,21 @@ pub fn planes_about(
 // ---- split
 
 // The two outputs of a split.
-#[derive(Drop)]
+#[derive(Clone, Copy)]
 pub enum Side {
     First,
     Second,
 }
 
 // How many points went to each.
-#[derive(Drop)]
+#[derive(Clone, Copy)]
 pub struct Sides {
     pub first: usize,
     pub second: usize,
 }
 
 // What split answers; the points are in the outputs.
-#[derive(Drop)]
+#[derive(Clone, Copy)]
 pub enum Splitting {
     Split(Sides),
     Refused(Refusal),

@@ -1,4 +1,6 @@
 // The planes of one axis: the refusals of what asks for them, their range and their d.
+#![tactic(auto)]
+
 ghost use Rattle.std.specs.Prelude.{◌≡◌, ◌+◌, ◌≤◌, ◌<◌, length};
 ghost use Rattle.std.specs.Float.{nan};
 ghost use Rattle.order.specs.Output.{Written};

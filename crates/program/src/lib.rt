@@ -1,4 +1,6 @@
 // The whole run of the program over lent buffers: input bytes in, output bytes out.
+#![tactic(auto)]
+
 ghost use Rattle.std.specs.Prelude.{◌≡◌, length};
 ghost use Rattle.grid.specs.Answers.{answers};
 ghost use Rattle.program_text.specs.Text.{PutText};
@@ -9,7 +11,7 @@ use grid::{Checked, Refusal};
 use program_summary::{Summary, Summing};
 
 // What writing answers: how many bytes were written.
-#[derive(Drop)]
+#[derive(Clone, Copy)]
 pub enum Writing {
     Wrote(usize),
     Refused(Refusal),

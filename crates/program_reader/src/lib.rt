@@ -1,5 +1,7 @@
 // The reader of the program's input: the records one at a time, each step answering a record or a
 // refusal.
+#![tactic(auto)]
+
 ghost use Rattle.std.specs.Prelude.{◌≡◌, ◌+◌, ◌≤◌, length, [], ◌∷◌};
 ghost use Rattle.std.specs.Float.{nan};
 ghost use Rattle.order.specs.Output.{Written};
@@ -21,7 +23,7 @@ const TRIPLE: usize = 14;
 const MOST: usize = 256;
 
 // The kinds of record, by their marks `Vh`, `Vp`, `Vt` and `Vz`.
-#[derive(Drop)]
+#[derive(Clone, Copy)]
 pub enum Kind {
     Head,
     Point,
@@ -29,45 +31,45 @@ pub enum Kind {
     End,
 }
 
-#[derive(Drop)]
+#[derive(Clone, Copy)]
 pub enum Mark {
     Of(Kind),
     Unknown,
 }
 
 // Whether bytes that are asked for stand in the input.
-#[derive(Drop)]
+#[derive(Clone, Copy)]
 pub enum Bytes {
     There,
     Cut,
 }
 
-#[derive(Drop)]
+#[derive(Clone, Copy)]
 pub enum SizingWay {
     Size(f32),
     Resolution(u32),
 }
 
-#[derive(Drop)]
+#[derive(Clone, Copy)]
 pub enum SizingWays {
     Known(SizingWay),
     Unknown,
 }
 
-#[derive(Drop)]
+#[derive(Clone, Copy)]
 pub enum Modes {
     Known(Mode),
     Unknown,
 }
 
-#[derive(Drop)]
+#[derive(Clone, Copy)]
 pub struct Head {
     pub way: SizingWay,
     pub mode: Mode,
 }
 
 // The numbers of three points.
-#[derive(Drop)]
+#[derive(Clone, Copy)]
 pub struct Corners {
     pub a: u32,
     pub b: u32,
@@ -75,13 +77,13 @@ pub struct Corners {
 }
 
 // What the first step answers.
-#[derive(Drop)]
+#[derive(Clone, Copy)]
 pub enum Start {
     Took(Head),
     Refused(Refusal),
 }
 
-#[derive(Drop)]
+#[derive(Clone, Copy)]
 pub enum InputRecord {
     Point(Point),
     Triangle(Corners),
@@ -89,21 +91,21 @@ pub enum InputRecord {
 }
 
 // What every later step answers.
-#[derive(Drop)]
+#[derive(Clone, Copy)]
 pub enum Step {
     Took(InputRecord),
     Refused(Refusal),
 }
 
 // How many points and triangles were taken.
-#[derive(Drop)]
+#[derive(Clone, Copy)]
 pub struct Taken {
     pub points: usize,
     pub triangles: usize,
 }
 
 // What the reader answers; the points and triangles are in its buffers.
-#[derive(Drop)]
+#[derive(Clone, Copy)]
 pub enum Reading {
     Complete(Head, Taken),
     Refused(Refusal),

@@ -1,4 +1,6 @@
 // What the program says of an input: the map's axes and how many cells have which label, or a refusal.
+#![tactic(auto)]
+
 ghost use Rattle.std.specs.Prelude.{◌≡◌, length};
 ghost use Rattle.grid.specs.declared.Checked.TheVariants.{Fine};
 ghost use Rattle.grid.specs.Grid.{Sound, cells};
@@ -22,7 +24,7 @@ const MOST_CELLS: usize = 32768;
 const NUMBERS: usize = 768;
 
 // The six lines' numbers.
-#[derive(Drop)]
+#[derive(Clone, Copy)]
 pub struct Summary {
     pub axes: Axes,
     pub outside: usize,
@@ -33,7 +35,7 @@ pub struct Summary {
 }
 
 // What the program answers.
-#[derive(Drop)]
+#[derive(Clone, Copy)]
 pub enum Summing {
     Summed(Summary),
     Refused(Refusal),

@@ -1,4 +1,6 @@
 // Text in a lent buffer: words, decimal numbers and lines.
+#![tactic(auto)]
+
 ghost use Rattle.std.specs.Prelude.{◌+◌, ◌*◌, ◌≤◌, length};
 ghost use Rattle.order.specs.Order.{join_all};
 ghost use Rattle.program_text.specs.Text.{spaced, line, PutText};

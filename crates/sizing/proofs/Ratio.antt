@@ -18,7 +18,7 @@ use lib.Ieee.Exact.{HasValue, round_exact}
 use lib.Ieee.Back.{round_whole}
 use lib.Ieee.Order.{round_mono, drop, kept}
 use lib.Ieee.Positive.{through, first_pos}
-use borrow.Author.Rules.{zero≤}
+use Prim.Native.Nat.{zero-le}
 use borrow.Author.Tests.{lt-ltb, ne_eqb, ltb-true, ltb-false, leb-true}
 use Rattle.numbers.specs.declared.Whole.TheVariants.{Of, TooLarge}
 use Rattle.numbers.specs.Rounding.{floor_z, limit, pick_whole, ceil_of, trunc_of}
@@ -109,7 +109,7 @@ extent_round true n c C (inr z) h = subst (λ (k : ℕ). Extent (round binary32 
   is = round_none true c C;
   held = round-fits binary32 true 0 c;
   plus = inr refl;
-  most = zero≤;
+  most = zero-le;
 })
 extent_round false n c C p h =
     let r = round_capped n c (2 ^ 21) 1 C (pow_pos 0) (le_trans (le_of_eq (mul-one n)) h) (round_whole binary32 false (2 ^ 21) (lit≤ tt)) in record {
@@ -384,7 +384,7 @@ div_none e l g L =
 
 none_cut : (r : ℕ) → UpTo r (fin true 0 (pos 0))
 unfolding trunc_of
-none_cut r = (0, refl, zero≤)
+none_cut r = (0, refl, zero-le)
 
 none_ratio : (r : ℕ) (e : ℤ) (l : ℕ) (g : ℤ) → r ≤ 254 → 0 < l → UpTo r (div binary32 (mul binary32 (of_int binary32 (pos r)) (fin true 0 e)) (fin false l g))
 unfolding of_int

@@ -1,4 +1,6 @@
 // Axes and placement of a grid over points, by cell size and by resolution.
+#![tactic(auto)]
+
 ghost use Rattle.std.specs.Prelude.{◌≡◌, ◌+◌, ◌*◌, ◌≤◌, ◌<◌, length};
 ghost use Rattle.sizing.specs.Sizing.{outcome, lower, upper, point_at, spans_at, span_with, spans_with, spans_of, placed_at, size_fault, CountsAs, axis_by_size, grid_of, size_grid, by_size, resolution_fault, tops, main_axis, extent_at, as_float, axis_by_resolution, resolution_grid, by_resolution};
 
@@ -6,13 +8,13 @@ use grid::{Axes, Checked, Placement, Refusal};
 use numbers::Whole;
 
 // What sizing answers.
-#[derive(Drop)]
+#[derive(Clone, Copy)]
 pub enum Sized {
     Grid(Axes, Placement),
     Refused(Refusal),
 }
 
-#[derive(Drop)]
+#[derive(Clone, Copy)]
 pub struct Point {
     pub x: f32,
     pub y: f32,
@@ -20,14 +22,14 @@ pub struct Point {
 }
 
 // The smallest and the greatest of some numbers.
-#[derive(Drop)]
+#[derive(Clone, Copy)]
 pub struct Span {
     pub lo: f32,
     pub hi: f32,
 }
 
 // The spans of the points' three coordinates.
-#[derive(Drop)]
+#[derive(Clone, Copy)]
 pub struct Spans {
     pub x: Span,
     pub y: Span,

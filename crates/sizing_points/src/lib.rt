@@ -1,4 +1,6 @@
 // The refusals of lent points.
+#![tactic(auto)]
+
 ghost use Rattle.std.specs.Prelude.{◌≡◌};
 ghost use Rattle.grid.specs.First.{first_not, every};
 ghost use Rattle.sizing_points.specs.Points.{bounded, length_fault, none_fault, numbers_fault, points_fault};

@@ -1,6 +1,8 @@
 // Replays the stored cases of grid, numbers and sizing: standard input has the cases, `stdout` what an
 // independent model answers (rust/lifted writes both). A case is fifteen words: what is asked, a
 // value, a count, and twelve words of data.
+#![tactic(auto)]
+
 ghost use Rattle.std.specs.Prelude.{◌≡◌, ◌+◌, ◌≤◌, length};
 
 use grid::{Axes, LabelRange, LabelSet};

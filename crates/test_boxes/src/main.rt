@@ -2,6 +2,8 @@
 // answers, each triangle 8 points back, and a plain model for refusals (rust/lifted writes both). A case is
 // 15 words, which are the axes, the placement, the asked label, the description of the labels (four words) and
 // the lengths of the two outputs; then the stored labels.
+#![tactic(auto)]
+
 ghost use Rattle.std.specs.Prelude.{◌≡◌, ◌+◌, ◌*◌, ◌≤◌, length};
 
 use boxes::Boxing;

@@ -5,41 +5,43 @@
 // changed in all, and after `differ` how many labels and answers were not as they should be.
 // A read out of range gives 0 here and a store does nothing, so that few proofs have to follow a
 // length; the comparisons would show a label that got lost.
+#![tactic(auto)]
+
 ghost use Rattle.std.specs.Prelude.{◌<◌};
 
 use edits::Editing;
 use fill::Mode;
 use grid::{Axes, Cell, Checked, Refusal};
 
-#[derive(Drop)]
+#[derive(Clone, Copy)]
 enum Family {
     Random,
     Shelled,
     Corridor,
 }
 
-#[derive(Drop)]
+#[derive(Clone, Copy)]
 struct AskedEdit {
     cell: Cell,
     opening: bool,
 }
 
 // A label that was overwritten, and where.
-#[derive(Drop)]
+#[derive(Clone, Copy)]
 struct Spoilt {
     at: usize,
     label: u8,
 }
 
 // What one call did: whether it should be done or refused, and how much was not as it should be.
-#[derive(Drop)]
+#[derive(Clone, Copy)]
 struct EditOutcome {
     done: bool,
     changed: u64,
     wrong: u64,
 }
 
-#[derive(Drop)]
+#[derive(Clone, Copy)]
 struct Tally {
     calls: u64,
     opened: u64,

@@ -12,6 +12,8 @@
 // - way 2: each cell in turn is edited twice, so that a fill is as it was.
 // A pattern has a byte for each cell. Its remainder by 16 is the cell's label or, if it is 0, one that takes
 // each of 6, 7 and 8; the cells of a byte of 16 or more are opened and closed, each time from the grid's labels.
+#![tactic(auto)]
+
 ghost use Rattle.std.specs.Prelude.{◌≡◌, ◌+◌, ◌≤◌, length};
 
 use edits::Editing;
@@ -20,7 +22,7 @@ use grid::{Axes, Cell};
 
 // Over many calls: how many were answered and how many refused, all the labels that they changed, and a number
 // that depends on every answer and on every label after each call. The totals are modulo 2^32.
-#[derive(Drop)]
+#[derive(Clone, Copy)]
 struct Tally {
     answered: u64,
     refused: u64,

@@ -6,13 +6,15 @@
 // - kind 2: nothing; the case is every grid of that many cells, at most 12;
 // - kind 3: the labels themselves.
 // Each case is run in the three modes, each time from the labels that the case gives.
+#![tactic(auto)]
+
 ghost use Rattle.std.specs.Prelude.{◌≡◌, ◌+◌, ◌*◌, ◌≤◌, ◌<◌, length};
 
 use fill::{FillCounts, Filling, Mode};
 use grid::Axes;
 
 // Over all grids of a case: the scans, the cells left, and a number that depends on every label.
-#[derive(Drop)]
+#[derive(Clone, Copy)]
 struct Tally {
     scans: u64,
     left: u64,

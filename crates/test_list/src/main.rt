@@ -5,6 +5,8 @@
 // - kind 0: the list with pairs;
 // - kind 1: the list without pairs;
 // - kind 2: the slice of a list, which is the triangles, from the first to the second axis.
+#![tactic(auto)]
+
 ghost use Rattle.std.specs.Prelude.{◌≡◌, ◌+◌, ◌*◌, ◌≤◌, length};
 
 use grid::{Axes, Placement};
@@ -12,7 +14,7 @@ use list::Listing;
 use test_replay::Row;
 
 // The lists of a case; `next` is where the stored numbers end.
-#[derive(Drop)]
+#[derive(Clone, Copy)]
 struct Lists {
     labels: Row,
     points: Row,

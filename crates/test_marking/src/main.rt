@@ -2,6 +2,8 @@
 // model answers (rust/lifted writes both). A case is eleven words, which are the lengths of the two lists,
 // the axes, the placement and the length of the label buffer; then the points and the triangles. A
 // list of more than 192 numbers is not stored: it has ones, or zeros.
+#![tactic(auto)]
+
 ghost use Rattle.std.specs.Prelude.{◌≡◌, ◌+◌, ◌*◌, ◌≤◌, length};
 
 use grid::{Axes, Placement};

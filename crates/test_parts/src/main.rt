@@ -5,6 +5,8 @@
 // - kind 0: classes; the first number is how many triangles there are, the lists are entries and ends;
 // - kind 1: planes; the numbers are axis, low, high, best and step;
 // - kind 2: split; the first number is the axis, the placement's first is d, the first list has the points.
+#![tactic(auto)]
+
 ghost use Rattle.std.specs.Prelude.{◌+◌, ◌*◌, ◌≤◌, length};
 
 use classes::Classing;
@@ -13,7 +15,7 @@ use planes::{Planing, Splitting};
 use test_replay::Row;
 
 // The lists of a case; `next` is where the stored numbers end.
-#[derive(Drop)]
+#[derive(Clone, Copy)]
 struct Lists {
     one: Row,
     other: Row,

@@ -3,13 +3,15 @@
 // many bytes of input.
 // - kind 0: the input as it stands;
 // - kind 1: each of its prefixes, and then each of its bytes changed to each other value.
+#![tactic(auto)]
+
 ghost use Rattle.std.specs.Prelude.{◌≡◌, ◌+◌, ◌≤◌, ◌<◌, length};
 
 use program::Writing;
 use program_summary::{Summary, Summing};
 
 // How many inputs were mapped, and a number that depends on all that was said and written.
-#[derive(Drop)]
+#[derive(Clone, Copy)]
 struct Total {
     mapped: u64,
     sum: u64,

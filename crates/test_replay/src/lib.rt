@@ -1,5 +1,7 @@
 // What the test programs share: made and stored input, outputs filled before a call, and answers, sums and
 // numbers written as text. The text is tested by the programs' runs; here it is only proved that nothing faults.
+#![tactic(auto)]
+
 ghost use Rattle.std.specs.Prelude.{◌≡◌, ◌+◌, ◌*◌, ◌≤◌, length};
 
 use grid::{Axes, Checked, Placement, Refusal};
@@ -9,7 +11,7 @@ use sizing::Sized;
 
 // A list of so many numbers, which repeat the stored ones in turn (without any they are 0), save that the
 // one at `place` is `value`. The stored ones stand in the input from `from` on.
-#[derive(Drop)]
+#[derive(Clone, Copy)]
 pub struct Row {
     pub length: usize,
     pub stored: usize,

@@ -1,5 +1,7 @@
 // 01's samples, run one after the other: each line is held to the file `stdout`, which was written
 // from 01's text. Axes come before the bits of the origin, the scale and the reciprocal.
+#![tactic(auto)]
+
 ghost use Rattle.std.specs.Prelude.{◌≡◌, ◌<◌, length};
 
 use edits::Editing;

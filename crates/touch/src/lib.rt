@@ -1,6 +1,8 @@
 // Whether a triangle touches a cell: none of thirteen directions separates them strictly. What depends on
 // the triangle alone is computed once: each direction leaves of all cells a band of those that it does not
 // separate from the triangle. Here a cell is held to the bands; the crate `touch_bands` makes them.
+#![tactic(auto)]
+
 ghost use Rattle.std.specs.Prelude.{◌≡◌, ◌<◌};
 ghost use Rattle.ints.specs.Order.{lesser, greater};
 ghost use Rattle.touch.specs.Bands.{kept, kept_three, kept_all, BandFits, ThreeFit, Axial, Crosswise, BandsFit, CellFits, CoordinatesFit};
@@ -9,7 +11,7 @@ use grid::Cell;
 
 // The cells that a direction does not separate: side * (direction . cell) is from low to high. x, y and z are
 // the direction's, times the side.
-#[derive(Drop)]
+#[derive(Clone, Copy)]
 pub struct Band {
     pub x: i64,
     pub y: i64,
@@ -19,7 +21,7 @@ pub struct Band {
 }
 
 // Three directions: the axes, or the products of an edge with them.
-#[derive(Drop)]
+#[derive(Clone, Copy)]
 pub struct Three {
     pub x: Band,
     pub y: Band,
@@ -27,7 +29,7 @@ pub struct Three {
 }
 
 // The thirteen of a triangle.
-#[derive(Drop)]
+#[derive(Clone, Copy)]
 pub struct Bands {
     pub axes: Three,
     pub normal: Band,

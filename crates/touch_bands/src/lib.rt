@@ -1,4 +1,6 @@
 // The thirteen bands of a triangle, one for each direction, and with them whether a triangle touches a cell.
+#![tactic(auto)]
+
 ghost use Rattle.std.specs.Prelude.{◌≡◌, ◌^◌, pos, nat_abs};
 ghost use Rattle.ints.specs.Bound.{In};
 ghost use Rattle.touch.specs.Touch.{dot_z, cube_reach, edge, cross, axis_x, axis_y, axis_z, normal, touching};

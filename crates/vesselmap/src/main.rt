@@ -1,5 +1,7 @@
 // The program: standard input to records to standard output, and nothing else in it. What is said of an input
 // turns on its first 7,190 bytes (program_reader/proofs/Long.antt), and the buffer has room for more.
+#![tactic(auto)]
+
 use libc::{STDIN_FILENO, STDOUT_FILENO};
 use program::Writing;
 
