@@ -4,7 +4,7 @@ use Rattle.list_hits.proofs.Sweeping.{Slabbing}
 use Rattle.list_hits.proofs.enter_slab.Given as goal
 
 abbrev pub invariant-loop-j : goal.invariant-loop-j
-invariant-loop-j l = Slabbing l.entrant.round.placing l.entrant.round.cells l.entrant.triangle l.i l.bands (record { from = l.initial.j; l.to = l.to }) l.k l.initial.records l.initial.list l.records l.list l.j
+invariant-loop-j l = Slabbing l.entrant.round.placing l.entrant.round.cells l.entrant.triangle l.i l.bands (record { from = l.initial.j; to = l.to }) l.k l.initial.records l.initial.list l.records l.list l.j
 
 abbrev pub decreases-loop-j : goal.decreases-loop-j
 decreases-loop-j l = l.to - l.j

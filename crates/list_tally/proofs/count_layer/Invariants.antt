@@ -6,7 +6,7 @@ use Rattle.list_tally.proofs.Sizes.{Tallied}
 use Rattle.list_tally.proofs.count_layer.Given as goal
 
 abbrev pub invariant-loop-j : goal.invariant-loop-j
-invariant-loop-j l = Tallied l.r (record { from = l.initial.j; l.to = l.to }) l.j (surface_in l.r l.labels (left_in (record { i = l.e; l.j = record { from = l.initial.j; l.to = l.j }; l.k = one l.k }) l.s)) l.n
+invariant-loop-j l = Tallied l.r (record { from = l.initial.j; to = l.to }) l.j (surface_in l.r l.labels (left_in (record { i = l.e; j = record { from = l.initial.j; to = l.j }; k = one l.k }) l.s)) l.n
 
 abbrev pub decreases-loop-j : goal.decreases-loop-j
 decreases-loop-j l = l.to - l.j

@@ -7,7 +7,7 @@ use Rattle.list_tally.proofs.Sizes.{Tallied}
 use Rattle.list_tally.proofs.count_row.Given as goal
 
 abbrev pub invariant-loop-i : goal.invariant-loop-i
-invariant-loop-i l = Tallied l.r (record { from = l.initial.i; l.to = l.to }) l.i (surface_in l.r l.labels (holds (row_of (record { from = l.initial.i; l.to = l.i }) l.j l.k))) l.n
+invariant-loop-i l = Tallied l.r (record { from = l.initial.i; to = l.to }) l.i (surface_in l.r l.labels (holds (row_of (record { from = l.initial.i; to = l.i }) l.j l.k))) l.n
 
 abbrev pub decreases-loop-i : goal.decreases-loop-i
 decreases-loop-i l = l.to - l.i

@@ -5,7 +5,7 @@ use Rattle.marking.proofs.Paint.{Along}
 use Rattle.marking.proofs.mark_layer.Given as goal
 
 abbrev pub invariant-loop-j : goal.invariant-loop-j
-invariant-loop-j l = Along l.r (record { from = l.initial.j; l.to = l.to }) l.j (left_in (record { i = l.e; l.j = record { from = l.initial.j; l.to = l.j }; l.k = one l.k }) l.s) l.initial.labels l.labels
+invariant-loop-j l = Along l.r (record { from = l.initial.j; to = l.to }) l.j (left_in (record { i = l.e; j = record { from = l.initial.j; to = l.j }; k = one l.k }) l.s) l.initial.labels l.labels
 
 abbrev pub decreases-loop-j : goal.decreases-loop-j
 decreases-loop-j l = l.to - l.j

@@ -6,7 +6,7 @@ use Rattle.marking.proofs.Paint.{Along}
 use Rattle.marking.proofs.mark_row.Given as goal
 
 abbrev pub invariant-loop-i : goal.invariant-loop-i
-invariant-loop-i l = Along l.r (record { from = l.initial.i; l.to = l.to }) l.i (holds (row_of (record { from = l.initial.i; l.to = l.i }) l.j l.k)) l.initial.labels l.labels
+invariant-loop-i l = Along l.r (record { from = l.initial.i; to = l.to }) l.i (holds (row_of (record { from = l.initial.i; to = l.i }) l.j l.k)) l.initial.labels l.labels
 
 abbrev pub decreases-loop-i : goal.decreases-loop-i
 decreases-loop-i l = l.to - l.i

@@ -1,0 +1,54 @@
+-- `fill_visits::visit_stretch` meets its contract: a visit in each turn (`Turns`), at the number of the turn's cell. Assumes nothing.
+use mathlib.Core.Bool.{false}
+use mathlib.Core.Path.{◌≡◌, refl, sym, subst, ◌∙◌}
+use Prim.Native.Nat.{ℕ, ◌*◌, ◌<◌}
+use native.Mathlib.Nat.{add-mul, one-mul}
+use native.Mathlib.Omega.{arith}
+use lib.ListN.{length, get_or}
+use Rattle.grid.specs.declared.Cell.{Cell}
+use Rattle.grid.specs.Grid.{InGrid}
+use Rattle.grid.proofs.Cells.{num_lt}
+use Rattle.fill_walks.specs.Scan.{is_walker}
+use Rattle.fill_walks.proofs.Turns.{visit_none, turns_more, turns_all}
+use Rattle.fill_visits.proofs.visit_stretch.Goals as goal
+
+-- the cell of this turn
+abbrev cell_of : goal.After-slice_known-in-loop-k-1-unread → Cell
+cell_of c = record { i = c.args.first.i; j = c.args.first.j; k = c.loop-k.k }
+
+in_grid_lem : (c : goal.After-slice_known-in-loop-k-1-unread) → InGrid c.args.r (cell_of c)
+in_grid_lem c = record { i_in = c.requires.i_lt_r0.0; j_in = c.requires.i_lt_r0.1; k_in = omega (arith, c.loop-k-test.true, c.requires.i_lt_r0.3) }
+
+within : (c : goal.After-slice_known-in-loop-k-1-unread) → c.loop-k.next < length c.loop-k.l
+within c = omega (arith, num_lt c.args.r (cell_of c) (in_grid_lem c), c.loop-k.invariant.1, c.loop-k.invariant.0.sheet.size)
+
+-- the cell of this turn
+abbrev cell_of_2 : goal.Then-is_idle → Cell
+cell_of_2 c = record { i = c.args.first.i; j = c.args.first.j; k = c.loop-k.k }
+
+pub bounds-l-n : goal.bounds-l-n
+bounds-l-n c = within c
+
+pub loop-k-preserved-then-is_idle : goal.loop-k-preserved-then-is_idle
+loop-k-preserved-then-is_idle c =
+    let a = c.args in
+    let i = c.loop-k.invariant in
+    let s = c.is_idle.ensures c.if-is_idle.true in (
+      turns_more _ _ _ _ _ _ _ _ _ _ _ _ i.0 c.loop-k-test.true refl (omega arith) (sym (visit_none a.p a.r (cell_of_2 c) c.loop-k.l c.loop-k.walked (subst (λ (q : ℕ). get_or c.loop-k.l q 0 ≡ a.p.todo → ⊥) i.1 s.0) (subst (λ (q : ℕ). is_walker a.p.walkers (get_or c.loop-k.l q 0) ≡ false) i.1 s.1))),
+      omega (arith, i.1, add-mul c.loop-k.k 1 (a.r.r0 * a.r.r1), one-mul (a.r.r0 * a.r.r1)),
+      i.2,
+      i.3,
+    )
+
+pub loop-k-preserved : goal.loop-k-preserved
+loop-k-preserved c =
+    let a = c.args in
+    let k = c.loop-k.k in (
+      turns_more _ _ _ _ _ _ _ _ _ _ _ _ c.loop-k.invariant.0 c.loop-k-test.true c.visit-walked.auto.l c.visit-walked.ensures.upper_bound.0 c.visit-walked.ensures.result_after,
+      omega (arith, c.loop-k.invariant.1, add-mul k 1 (a.r.r0 * a.r.r1), one-mul (a.r.r0 * a.r.r1)),
+      c.visit-walked.ensures.upper_bound.1,
+      c.visit-walked.auto.table ∙ c.loop-k.invariant.3,
+    )
+
+pub returns : goal.returns
+returns c = let t = c.loop-k.invariant.0 in record { result_after = turns_all _ _ _ _ _ _ _ _ _ _ t c.loop-k-test.false; k_bound = (omega (arith, t.few, t.at_most), c.loop-k.invariant.2) }

@@ -1,0 +1,35 @@
+-- `marking::mark` meets its contract: a refusal, or zeros and then every triangle. Assumes nothing.
+use mathlib.Core.List.{List}
+use mathlib.Core.Path.{◌≡◌, sym, ap, subst, ◌∙◌}
+use Prim.Native.Nat.{ℕ}
+use lib.ListN.{length, replicate, length-replicate}
+use Rattle.grid.specs.declared.Checked.{Checked}
+use Rattle.grid.specs.declared.Checked.TheVariants.{Fine}
+use Rattle.grid.specs.Answers.{answers, unless, lent_after}
+use Rattle.marking_mesh.specs.Faults.{mesh_fault}
+use Rattle.marking.specs.Marked.{is_surface, marked_labels}
+use Rattle.grid.specs.Grid.{Sheet}
+use Rattle.marking.specs.Painted.{Painted}
+use Rattle.marking.proofs.Laws.{ready, painted_marked}
+use Rattle.marking.proofs.mark.Goals as goal
+
+-- the checks found nothing
+fine : (c : goal.After-mark_triangles-arg-1) → mesh_fault c.args.points.now c.args.triangles.now c.args.r c.args.placement (length c.args.labels.now) ≡ Fine
+fine c = sym c.mesh_fault.ensures ∙ c.in-Fine.is
+
+-- the checks found nothing
+fine_2 : (c : goal.After-slice_known-in-Fine-2-1) → mesh_fault c.args.points.now c.args.triangles.now c.args.r c.args.placement (length c.args.labels.now) ≡ Fine
+fine_2 c = sym c.mesh_fault.ensures ∙ c.in-Fine.is
+
+pub mark_triangles-requires : goal.mark_triangles-requires
+mark_triangles-requires c = let a = c.args in
+    let l = a.labels.now in
+    let w = ready a.points.now a.triangles.now a.r a.placement (length l) (fine c) in
+    let zeros : Sheet a.r (replicate (length l) 0) = record { sound = w.1; size = length-replicate (length l) 0 ∙ w.2 } in record { sheet = subst (Sheet a.r) (sym c.clear.ensures) zeros; ready = w.0 }
+
+pub returns-in-Fine : goal.returns-in-Fine
+returns-in-Fine c = let a = c.args in
+    let l = a.labels.now in
+    let ok = fine_2 c in
+    let w = ready a.points.now a.triangles.now a.r a.placement (length l) ok in
+    let done = subst (λ (z : List ℕ). Painted a.r (is_surface a.points.now a.triangles.now a.r a.placement) z c.mark_triangles.new.labels) c.clear.ensures c.mark_triangles.ensures in record { result_value = ap (λ (x : Checked). unless x (answers tt)) (sym ok); labels_after = painted_marked a.points.now a.triangles.now a.r a.placement (length l) _ w.2 done ∙ ap (λ (x : Checked). lent_after x l (marked_labels a.points.now a.triangles.now a.r a.placement)) (sym ok) }
