@@ -25,7 +25,7 @@ use Rattle.fill.proofs.Swings.{alternate_one}
 -- ---- which numbers fill gives: 8, 9 and 11
 
 pub fill_numbers : (mode : Mode) (r : Axes) (l m : List ℕ) (o : Outcome FillCounts) → Ends (fill_fault r l) l (Fills mode r l) o m → Gives (8 ∷ 9 ∷ 11 ∷ []) o
-fill_numbers mode r l m o e = ends_gives _ (fill_fault r l) l (Fills mode r l) o m (finds_map _ marks r l tt tt tt) e
+fill_numbers mode r l m o e = ends_gives (8 ∷ 9 ∷ 11 ∷ []) (fill_fault r l) l (Fills mode r l) o m (finds_map (8 ∷ 9 ∷ 11 ∷ []) marks r l tt tt tt) e
 
 -- a refusal leaves every label
 pub refused_same : (mode : Mode) (r : Axes) (l m : List ℕ) (n place : ℕ) → Ends (fill_fault r l) l (Fills mode r l) (refuses n place) m → m ≡ l
