@@ -36,7 +36,7 @@ use Rattle.edits.proofs.Calls.{call_flooded}
 -- ---- refusals
 
 pub edit_numbers : (r : Axes) (e : Edit) (l m : List ℕ) (o : Outcome ℕ) → Call r e l o m → Gives (8 ∷ 9 ∷ 11 ∷ 12 ∷ 13 ∷ []) o
-edit_numbers r e l m o k = ends_gives _ (edit_fault r l e) l (Edited r l e) o m (edit_finds r l e) k
+edit_numbers r e l m o k = ends_gives (8 ∷ 9 ∷ 11 ∷ 12 ∷ 13 ∷ []) (edit_fault r l e) l (Edited r l e) o m (edit_finds r l e) k
 
 -- a refusal leaves every label
 pub refused_same : (r : Axes) (e : Edit) (l m : List ℕ) (n place : ℕ) → Call r e l (refuses n place) m → m ≡ l

@@ -5,9 +5,11 @@
 ghost use Rattle.std.specs.Prelude.{◌≡◌, ◌+◌, ◌*◌, ◌≤◌, length};
 
 use grid::{Axes, Checked, Placement, Refusal};
-use libc::STDOUT_FILENO;
 use numbers::Whole;
 use sizing::Sized;
+
+// The number of the standard output among the open files.
+const STDOUT: i32 = 1;
 
 // A list of so many numbers, which repeat the stored ones in turn (without any they are 0), save that the
 // one at `place` is `value`. The stored ones stand in the input from `from` on.
@@ -61,11 +63,11 @@ pub fn sum(s: u64, labels: &[u8]) -> u64 {
 // ---- output
 
 pub fn text(t: &[u8]) {
-    io::write_all(STDOUT_FILENO, t);
+    io::write_all(STDOUT, t);
 }
 
 pub fn number(n: u64) {
-    io::print_decimal(STDOUT_FILENO, n);
+    io::print_decimal(STDOUT, n);
     text(b" ");
 }
 
@@ -74,7 +76,7 @@ pub fn bits(x: f32) {
     if x != x {
         text(b"nan ");
     } else {
-        io::print_hex(STDOUT_FILENO, f32::to_bits(x) as u64, 8);
+        io::print_hex(STDOUT, f32::to_bits(x) as u64, 8);
         text(b" ");
     }
 }

@@ -2,8 +2,11 @@
 // turns on its first 7,190 bytes (program_reader/proofs/Long.antt), and the buffer has room for more.
 #![tactic(auto)]
 
-use libc::{STDIN_FILENO, STDOUT_FILENO};
 use program::Writing;
+
+// The numbers of the standard input and output among the open files.
+const STDIN: i32 = 0;
+const STDOUT: i32 = 1;
 
 // Writes what is said of an input. A text has at most 256 bytes, so it always has room.
 fn say(input: &[u8]) {
@@ -11,13 +14,13 @@ fn say(input: &[u8]) {
     match program::run(input, &mut output) {
         Writing::Refused(_) => {}
         Writing::Wrote(k) => {
-            io::write_all(STDOUT_FILENO, &output[..k]);
+            io::write_all(STDOUT, &output[..k]);
         }
     }
 }
 
 fn main() {
     let mut buffer = io::large_buffer();
-    let n = io::read_full(STDIN_FILENO, &mut buffer);
+    let n = io::read_full(STDIN, &mut buffer);
     say(&buffer[..n]);
 }
