@@ -1,0 +1,10 @@
+-- `test_program::byte_changed` ends, and its count stays small. Assumes nothing.
+use Prim.Native.Nat.{◌-◌, ◌≤◌, ◌<◌}
+use lib.ListN.{length}
+use Rattle.test_program.proofs.byte_changed.Given as goal
+
+abbrev pub invariant-loop-by : goal.invariant-loop-by
+invariant-loop-by l = (by ≤ 256) × (1 ≤ by) × (l.by.mapped < by) × (length l.s ≤ 256) × (l.at < length l.s)
+
+abbrev pub decreases-loop-by : goal.decreases-loop-by
+decreases-loop-by l = 256 - by
