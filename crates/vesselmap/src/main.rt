@@ -6,6 +6,7 @@ use program::Writing;
 
 // The numbers of the standard input and output among the open files.
 const STDIN: i32 = 0;
+
 const STDOUT: i32 = 1;
 
 // Writes what is said of an input. A text has at most 256 bytes, so it always has room.

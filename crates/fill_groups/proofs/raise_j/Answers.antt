@@ -7,7 +7,10 @@ use Rattle.fill_groups.proofs.Cover.{up_at}
 use Rattle.fill_groups.proofs.raise_j.Goals as goal
 
 pub returns : goal.returns
-returns c = record { raises = c.raise.ensures.raises; by_index = λ i g h.
+returns c = record {
+  raises = c.raise.ensures.raises;
+  by_index = λ i g h.
       let s : ℕ = i - c.args.low in
       let q : place_at c.args.i c.args.low c.args.k + s * 1 ≡ place_at c.args.i i c.args.k = omega arith in
-      up_at _ _ (place_at c.args.i i c.args.k) (ap (λ (n : ℕ). n + s * 1) c.place-n.ensures.0 ∙ q) (c.raise.ensures.by_index s (omega arith)) }
+      up_at _ _ (place_at c.args.i i c.args.k) (ap (λ (n : ℕ). n + s * 1) c.place-n.ensures.0 ∙ q) (c.raise.ensures.by_index s (omega arith));
+}

@@ -22,15 +22,21 @@ walks-requires c = record { sheet = (sheet_kept c.args.r c.args.l.now _ (length-
 pub returns-then-v-todo : goal.returns-then-v-todo
 returns-then-v-todo c = let a = c.args in
     let n = c.requires.in_grid.1 in
-    let found : at a.r a.l.now a.c ≡ a.p.todo = subst (λ (q : ℕ). get_or a.l.now q 0 ≡ a.p.todo) n c.if-v-todo.true in record { result_after = ap (λ (l : List ℕ). record { labels = l; walked = a.walked + 1 }) (c.walks.ensures.l_after ∙ ap (λ (q : ℕ). walked_from a.p a.r a.c (set a.l.now q a.p.done)) n)
-          ∙ sym (visit_done a.p a.r a.c a.l.now a.walked found); upper_bound = (omega arith, c.walks.ensures.covers) }
+    let found : at a.r a.l.now a.c ≡ a.p.todo = subst (λ (q : ℕ). get_or a.l.now q 0 ≡ a.p.todo) n c.if-v-todo.true in record {
+      result_after = ap (λ (l : List ℕ). record { labels = l; walked = a.walked + 1 }) (c.walks.ensures.l_after ∙ ap (λ (q : ℕ). walked_from a.p a.r a.c (set a.l.now q a.p.done)) n)
+          ∙ sym (visit_done a.p a.r a.c a.l.now a.walked found);
+      upper_bound = (omega arith, c.walks.ensures.covers);
+    }
 
 pub returns-then-is_walker : goal.returns-then-is_walker
 returns-then-is_walker c = let a = c.args in
     let n = c.requires.in_grid.1 in
     let other : at a.r a.l.now a.c ≡ a.p.todo → ⊥ = subst (λ (q : ℕ). get_or a.l.now q 0 ≡ a.p.todo → ⊥) n c.if-v-todo.false in
-    let walker : is_walker a.p.walkers (at a.r a.l.now a.c) ≡ true = subst (λ (q : ℕ). is_walker a.p.walkers (get_or a.l.now q 0) ≡ true) n (sym c.is_walker.ensures ∙ c.if-is_walker.true) in record { result_after = ap (λ (l : List ℕ). record { labels = l; walked = a.walked }) c.walks-then-is_walker.ensures.l_after
-          ∙ sym (visit_walk a.p a.r a.c a.l.now a.walked other walker); upper_bound = (omega arith, c.walks-then-is_walker.ensures.covers) }
+    let walker : is_walker a.p.walkers (at a.r a.l.now a.c) ≡ true = subst (λ (q : ℕ). is_walker a.p.walkers (get_or a.l.now q 0) ≡ true) n (sym c.is_walker.ensures ∙ c.if-is_walker.true) in record {
+      result_after = ap (λ (l : List ℕ). record { labels = l; walked = a.walked }) c.walks-then-is_walker.ensures.l_after
+          ∙ sym (visit_walk a.p a.r a.c a.l.now a.walked other walker);
+      upper_bound = (omega arith, c.walks-then-is_walker.ensures.covers);
+    }
 
 pub returns-else-is_walker : goal.returns-else-is_walker
 returns-else-is_walker c = let a = c.args in

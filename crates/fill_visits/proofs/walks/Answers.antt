@@ -5,6 +5,9 @@ use Rattle.fill_walks.proofs.Rays.{six_ways}
 use Rattle.fill_visits.proofs.walks.Goals as goal
 
 pub returns : goal.returns
-returns c = record { l_after = c.along_i.ensures.l_after
-          ∙ ap (walked_both c.args.p c.args.n 1 c.args.c.i c.args.r.r0) (c.along_j.ensures.l_after ∙ ap (walked_both c.args.p c.args.n c.args.r.r0 c.args.c.j c.args.r.r1) c.along_k.ensures.l_after)
-          ∙ six_ways c.args.p c.args.r c.args.c c.args.n c.args.l.now c.requires.in_grid.1; covers = c.along_i.ensures.covers }
+returns c = record {
+  l_after = c.along_i.ensures.l_after
+      ∙ ap (walked_both c.args.p c.args.n 1 c.args.c.i c.args.r.r0) (c.along_j.ensures.l_after ∙ ap (walked_both c.args.p c.args.n c.args.r.r0 c.args.c.j c.args.r.r1) c.along_k.ensures.l_after)
+      ∙ six_ways c.args.p c.args.r c.args.c c.args.n c.args.l.now c.requires.in_grid.1;
+  covers = c.along_i.ensures.covers;
+}

@@ -11,11 +11,15 @@ loop-j-init c =
     (slice_room a.sweep.bands c.requires.table.1 a.sweep.block a.i c.slab_along_j-f.result c.slab_along_k-k.result c.slab_along_j-f.ensures c.slab_along_k-k.ensures a.entrant.round.placing a.entrant.round.cells a.entrant.triangle a.records.now _ c.requires.room)
 
 pub enter_line-requires : goal.enter_line-requires
-enter_line-requires c = let a = c.args in let q = c.requires.i_bound in let w = c.loop-j.invariant in let l = c.loop-j-test.true in let r = slice_room a.sweep.bands c.requires.table.1 a.sweep.block a.i c.slab_along_j-f.result c.slab_along_k-k.result c.slab_along_j-f.ensures c.slab_along_k-k.ensures a.entrant.round.placing a.entrant.round.cells a.entrant.triangle a.records.now _ c.requires.room in record { table = (
-        slab_table a.entrant.round.placing a.entrant.round.cells a.entrant.triangle a.i a.sweep.bands c.slab_along_j-f.result c.slab_along_k-k.result a.records.now a.list.now _ c.requires.table.0 r _ _ _ w,
-        c.requires.table.1,
-        line_rest a.sweep.bands c.requires.table.1 a.sweep.block a.i c.slab_along_j-f.result c.slab_along_k-k.result c.slab_along_j-f.ensures c.slab_along_k-k.ensures c.requires.table.2 c.loop-j.j w.walk.low l,
-      ); i_bound = (q.0, omega (arith, l, q.1, c.slab_along_j-f.ensures.within), le_trans c.slab_along_k-k.ensures.within q.2, q.3); room = row_room a.entrant.round.placing a.entrant.round.cells a.entrant.triangle a.i a.sweep.bands c.slab_along_j-f.result c.slab_along_k-k.result a.records.now a.list.now _ c.requires.table.0 r _ _ _ w l _ (entered_size _ _ _ _ _ _ _ w.entries) }
+enter_line-requires c = let a = c.args in let q = c.requires.i_bound in let w = c.loop-j.invariant in let l = c.loop-j-test.true in let r = slice_room a.sweep.bands c.requires.table.1 a.sweep.block a.i c.slab_along_j-f.result c.slab_along_k-k.result c.slab_along_j-f.ensures c.slab_along_k-k.ensures a.entrant.round.placing a.entrant.round.cells a.entrant.triangle a.records.now _ c.requires.room in record {
+  table = (
+    slab_table a.entrant.round.placing a.entrant.round.cells a.entrant.triangle a.i a.sweep.bands c.slab_along_j-f.result c.slab_along_k-k.result a.records.now a.list.now _ c.requires.table.0 r _ _ _ w,
+    c.requires.table.1,
+    line_rest a.sweep.bands c.requires.table.1 a.sweep.block a.i c.slab_along_j-f.result c.slab_along_k-k.result c.slab_along_j-f.ensures c.slab_along_k-k.ensures c.requires.table.2 c.loop-j.j w.walk.low l,
+  );
+  i_bound = (q.0, omega (arith, l, q.1, c.slab_along_j-f.ensures.within), le_trans c.slab_along_k-k.ensures.within q.2, q.3);
+  room = row_room a.entrant.round.placing a.entrant.round.cells a.entrant.triangle a.i a.sweep.bands c.slab_along_j-f.result c.slab_along_k-k.result a.records.now a.list.now _ c.requires.table.0 r _ _ _ w l _ (entered_size _ _ _ _ _ _ _ w.entries);
+}
 
 pub loop-j-preserved : goal.loop-j-preserved
 loop-j-preserved c =

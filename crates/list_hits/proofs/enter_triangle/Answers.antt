@@ -10,8 +10,12 @@ use Rattle.list_hits.proofs.Sweeping.{room_same}
 use Rattle.list_hits.proofs.enter_triangle.Goals as goal
 
 pub enter_block-requires : goal.enter_block-requires
-enter_block-requires c = let a = c.args in let s = c.requires.table.1 in record { table = (c.requires.table.0, c.sweep_of-sweep.ensures.fit, c.sweep_of-sweep.ensures.axial); to_bound = (omega (arith, c.sweep_of-sweep.ensures.i_in, s.axis0.most), omega (arith, c.sweep_of-sweep.ensures.j_in, s.axis1.most), omega (arith, c.sweep_of-sweep.ensures.k_in, s.axis2.most), c.requires.table.2); room = room_same a.entrant.round.placing a.entrant.round.cells (gets a.entrant.triangle (hits a.ps.now a.ts.now a.laid.axes a.laid.placement a.entrant.triangle) a.records.now) (gets a.entrant.triangle (left_in c.sweep_of-sweep.result.block c.sweep_of-sweep.result.bands) a.records.now) a.records.now _
-            (λ x l. gets_same a.entrant.triangle (hits a.ps.now a.ts.now a.laid.axes a.laid.placement a.entrant.triangle) (left_in c.sweep_of-sweep.result.block c.sweep_of-sweep.result.bands) a.records.now x (sym (c.sweep_of-sweep.ensures.cells (record_at a.records.now x).cell))) c.requires.room }
+enter_block-requires c = let a = c.args in let s = c.requires.table.1 in record {
+  table = (c.requires.table.0, c.sweep_of-sweep.ensures.fit, c.sweep_of-sweep.ensures.axial);
+  to_bound = (omega (arith, c.sweep_of-sweep.ensures.i_in, s.axis0.most), omega (arith, c.sweep_of-sweep.ensures.j_in, s.axis1.most), omega (arith, c.sweep_of-sweep.ensures.k_in, s.axis2.most), c.requires.table.2);
+  room = room_same a.entrant.round.placing a.entrant.round.cells (gets a.entrant.triangle (hits a.ps.now a.ts.now a.laid.axes a.laid.placement a.entrant.triangle) a.records.now) (gets a.entrant.triangle (left_in c.sweep_of-sweep.result.block c.sweep_of-sweep.result.bands) a.records.now) a.records.now _
+      (λ x l. gets_same a.entrant.triangle (hits a.ps.now a.ts.now a.laid.axes a.laid.placement a.entrant.triangle) (left_in c.sweep_of-sweep.result.block c.sweep_of-sweep.result.bands) a.records.now x (sym (c.sweep_of-sweep.ensures.cells (record_at a.records.now x).cell))) c.requires.room;
+}
 
 pub returns : goal.returns
 returns c =

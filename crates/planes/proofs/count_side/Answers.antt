@@ -17,6 +17,6 @@ loop-v-preserved c =
     let l = c.loop-v in
     let to : (b : Bool) → c.goes_to.result ≡ b → goes_to a.side (coord a.ps.now a.axis l.v) a.d ≡ b = λ b e. sym c.goes_to.ensures ∙ e in
     elim c.if-goes_to.branch [
-      goal.then-goes_to w ↦ subst (λ (n : ℕ). Counted a.side a.ps.now a.axis a.d n (l.v + 1)) (sym w.n-is) (counted_more a.side a.ps.now a.axis a.d l.v c.loop-v-test.true (to true w.if-goes_to.true) l.n l.invariant)
-    | goal.else-goes_to w ↦ subst (λ (n : ℕ). Counted a.side a.ps.now a.axis a.d n (l.v + 1)) (sym w.n-is) (counted_same a.side a.ps.now a.axis a.d l.v c.loop-v-test.true (to false w.if-goes_to.false) l.n l.invariant)
+      | goal.then-goes_to w ↦ subst (λ (n : ℕ). Counted a.side a.ps.now a.axis a.d n (l.v + 1)) (sym w.n-is) (counted_more a.side a.ps.now a.axis a.d l.v c.loop-v-test.true (to true w.if-goes_to.true) l.n l.invariant)
+      | goal.else-goes_to w ↦ subst (λ (n : ℕ). Counted a.side a.ps.now a.axis a.d n (l.v + 1)) (sym w.n-is) (counted_same a.side a.ps.now a.axis a.d l.v c.loop-v-test.true (to false w.if-goes_to.false) l.n l.invariant)
     ]

@@ -19,6 +19,6 @@ loop-v-preserved c =
     let l = c.loop-v in
     let to : (b : Bool) → c.goes_to.result ≡ b → goes_to a.side (coord a.ps.now a.axis l.v) a.d ≡ b = λ b e. sym c.goes_to.ensures ∙ e in
     elim c.if-goes_to.branch [
-      goal.then-goes_to w ↦ parted_is a.side a.ps.now a.axis a.d _ _ _ _ _ _ w.out-is w.n-is (parted_more a.side a.ps.now a.axis a.d l.v c.loop-v-test.true (to true w.if-goes_to.true) a.out.now l.out _ l.n l.invariant w.put_point.ensures)
-    | goal.else-goes_to w ↦ parted_is a.side a.ps.now a.axis a.d _ _ _ _ _ _ w.out-is w.n-is (parted_same a.side a.ps.now a.axis a.d l.v c.loop-v-test.true (to false w.if-goes_to.false) a.out.now l.out l.n l.invariant)
+      | goal.then-goes_to w ↦ parted_is a.side a.ps.now a.axis a.d _ _ _ _ _ _ w.out-is w.n-is (parted_more a.side a.ps.now a.axis a.d l.v c.loop-v-test.true (to true w.if-goes_to.true) a.out.now l.out _ l.n l.invariant w.put_point.ensures)
+      | goal.else-goes_to w ↦ parted_is a.side a.ps.now a.axis a.d _ _ _ _ _ _ w.out-is w.n-is (parted_same a.side a.ps.now a.axis a.d l.v c.loop-v-test.true (to false w.if-goes_to.false) a.out.now l.out l.n l.invariant)
     ]
