@@ -1,5 +1,5 @@
 /* The library for C: one function for each call. docs/CALLS.md says what each answers, and the contracts in
- * crates/capi are what is proved. `rt staticlib capi` writes target/staticlib/libcapi.a, which needs memcpy and
+ * crates/capi are what is proved. `rt lib` in crates/capi writes crates/capi/out/libcapi.a, which needs memcpy and
  * memset from outside and nothing else.
  *
  * A slice is a pointer and a length. The pointer is not null, and has so many elements behind it that may be read,

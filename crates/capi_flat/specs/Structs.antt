@@ -8,7 +8,7 @@ use Rattle.grid.specs.declared.Checked.{Checked}
 use Rattle.grid.specs.Answers.{Outcome, answers, unless}
 use Rattle.sizing.specs.Sizing.{Laid}
 use Rattle.fill.specs.declared.FillCounts as fill-counts
-use Rattle.list.specs.declared.ListCounts as list_Counts
+use Rattle.list.specs.declared.ListCounts as list_counts
 use Rattle.list_record.specs.Record.{bad_range}
 use Rattle.planes.specs.declared.Planes.{Planes}
 use Rattle.planes.specs.declared.Sides.{Sides}
@@ -52,7 +52,7 @@ filled f = record { number = f.number; place = f.place; value = record { scans =
 abbrev pub counted : Counted → Flat ℕ
 counted n = record { number = n.number; place = n.place; value = n.count }
 
-abbrev pub listing : Listed → Flat list_Counts.ListCounts
+abbrev pub listing : Listed → Flat list_counts.ListCounts
 listing n = record { number = n.number; place = n.place; value = record { cells = n.cells; pairs = n.pairs } }
 
 abbrev pub planned : Planned → Flat Planes
@@ -79,7 +79,7 @@ no_grid = record { axes = record { r0 = 0; r1 = 0; r2 = 0 }; placement = record 
 abbrev pub no_fill : fill-counts.FillCounts
 no_fill = record { scans = 0; left = 0 }
 
-abbrev pub no_list : list_Counts.ListCounts
+abbrev pub no_list : list_counts.ListCounts
 no_list = record { cells = 0; pairs = 0 }
 
 abbrev pub no_planes : Planes

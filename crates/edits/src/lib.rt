@@ -32,7 +32,8 @@ fn meets_air(l: &[u8], r: Axes, c: Cell, n: usize) -> bool
     let mut d = 0u8;
     while d < edits_reach::WAYS {
         let a = edits_reach::look(l, r, c, n, d);
-        if a.label == OUTSIDE {
+        let air = a.label == OUTSIDE;
+        if air {
             return true;
         }
         d += 1;

@@ -141,7 +141,8 @@ pub fn run_phase(l: &mut [u8], p: Phase, r: Axes) -> usize
     loop {
         let walked = scan(l, &mut table, p, r);
         scans += 1;
-        if walked == 0 {
+        let done = walked == 0;
+        if done {
             return scans;
         }
     }

@@ -46,7 +46,8 @@ fn walk(l: &mut [u8], p: Phase, from: usize, add: usize, sub: usize, count: usiz
         let v = l[at];
         if v != pass {
             let n = count - left;
-            if v == SURFACE {
+            let surface = v == SURFACE;
+            if surface {
                 l[at] = p.mark;
                 return n;
             }

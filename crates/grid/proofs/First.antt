@@ -21,7 +21,7 @@ le_or_lt (suc a) (suc b) = ⊎_elim (λ p. inl (suc-le-suc p)) (λ q. inr (suc-l
 pub drop_next : {A : Type 0} (d : A) (xs : List A) (i : ℕ) → i < length xs → drop i xs ≡ get_or xs i d ∷ drop (i + 1) xs
 drop_next d xs i h = drop-cons xs i d h ∙ ap (λ (k : ℕ). get_or xs i d ∷ drop k xs) (sym (add-one i))
 
--- of firstNot: the place is still to be found, from i on
+-- of first_not: the place is still to be found, from i on
 pub record Looking {A : Type 0} (ok : A → Bool) (xs : List A) (i : ℕ) : Type 0 where
   pub within : i ≤ length xs
   pub rest : first_not ok xs ≡ i + first_not ok (drop i xs)

@@ -1,5 +1,5 @@
 -- A signed number as the difference of two numbers, `sub_ℕ a b`, so that `omega` can do signed sums and orders: write each number so
--- (`up_down`), gather sums and negations into one difference (`add_sub`, `neg_sub`), and close with `eq_sub`, `lt_sub` or `le-sub`.
+-- (`up_down`), gather sums and negations into one difference (`add_sub`, `neg_sub`), and close with `eq_sub`, `lt_sub` or `le_sub`.
 use Rattle.std.specs.Prelude.{◌≡◌, refl, Bool, true, false, not, cond, ℕ, zero, suc, ◌+◌, ◌-◌, ◌≤◌, ◌<◌, T, ltb, ℤ, pos, negsuc, neg_ℤ, ◌+ℤ◌, ◌-ℤ◌}
 use Rattle.std.proofs.Common.{sym, ap, ◌∙◌, arith, ltb→lt, nltb→le, ltb-true, ltb-false, lt-ltb, le-ltb}
 use Rattle.std.proofs.Math.IntN.{sub_ℕ, +ℤ-neg_ℤ_cancel}

@@ -59,7 +59,8 @@ pub fn enter_row(
     let mut x = from;
     while x < n {
         let e = list_record::read(records, x);
-        if past <= list_lookup::key_of(e.cell) {
+        let over = past <= list_lookup::key_of(e.cell);
+        if over {
             return;
         }
         let p = x;

@@ -52,7 +52,8 @@ fn floor_scaled(x: f32, places: u32) -> Whole
     let neg = 2147483648 <= bits;
     let field = bits % 2147483648 / 8388608;
     let digits = bits % 8388608;
-    if 167 <= field {
+    let large = 167 <= field;
+    if large {
         return Whole::TooLarge;
     }
     if field == 0 {

@@ -105,7 +105,7 @@ size_fault size = fault_if (not (le least_size size && le size greatest_size)) B
 abbrev pub larger : ℕ → ℕ → ℕ
 larger a b = cond (leb a b) b a
 
--- a rounded quotient as a count. After the checks it is a whole number not below 0 (`size-Counts`, `resolution_counts` in proofs/Ranges.antt); for the rest, one below 0 is 0, as the crate's cast has it, and one that is too large, or none, is more than any axis has
+-- a rounded quotient as a count. After the checks it is a whole number not below 0 (`size_counts`, `resolution_counts` in proofs/Ranges.antt); for the rest, one below 0 is 0, as the crate's cast has it, and one that is too large, or none, is more than any axis has
 unfoldable pub natural : Whole → ℕ
 natural (Of (pos n)) = n
 natural (Of (negsuc n)) = 0

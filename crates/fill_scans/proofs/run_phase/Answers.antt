@@ -11,11 +11,11 @@ loop-p-init c = (going_none _ _ c.requires.clear.proper _ c.requires.sheet, cove
 pub overflow_add-scans : goal.overflow_add-scans
 overflow_add-scans c = omega (arith, c.loop-p.invariant.0.left, count_most (ahead c.args.p) c.args.l.now, c.well_formed.0)
 
-pub returns-then-walked-eq0 : goal.returns-then-walked-eq0
-returns-then-walked-eq0 c = going_done _ _ c.requires.clear.proper _ _ _ _ _ c.loop-p.invariant.0 c.if-walked-eq0.true c.scan-walked.ensures.result_after
+pub returns-then-done : goal.returns-then-done
+returns-then-done c = going_done _ _ c.requires.clear.proper _ _ _ _ _ c.loop-p.invariant.0 c.if-done.true c.scan-walked.ensures.result_after
 
 pub loop-p-smaller : goal.loop-p-smaller
-loop-p-smaller c = omega (arith, falls _ _ c.requires.clear.proper _ _ _ c.loop-p.invariant.0.sheet c.scan-walked.ensures.result_after, c.if-walked-eq0.false)
+loop-p-smaller c = omega (arith, falls _ _ c.requires.clear.proper _ _ _ c.loop-p.invariant.0.sheet c.scan-walked.ensures.result_after, c.if-done.false)
 
 pub loop-p-preserved : goal.loop-p-preserved
-loop-p-preserved c = (going_more _ _ c.requires.clear.proper _ _ _ _ _ c.loop-p.invariant.0 c.scan-walked.auto.l c.if-walked-eq0.false c.scan-walked.ensures.result_after, c.scan-walked.ensures.covers)
+loop-p-preserved c = (going_more _ _ c.requires.clear.proper _ _ _ _ _ c.loop-p.invariant.0 c.scan-walked.auto.l c.if-done.false c.scan-walked.ensures.result_after, c.scan-walked.ensures.covers)

@@ -23,7 +23,7 @@ next_2 : (c : goal.After-slice_known-1-unread) →
 next_2 c = along_step _ _ _ _ _ c.loop-left-test.true c.loop-left.invariant.2
 
 -- the next number is below the length, and so is the rest of the ray
-next_3 : (c : goal.Then-v-eq-SURFACE) →
+next_3 : (c : goal.Then-surface) →
     (c.args.sub ≤ c.loop-left.at + c.args.add)
     × (c.loop-left.at + c.args.add - c.args.sub < length c.args.l.now)
     × Along (length c.args.l.now) (c.loop-left.at + c.args.add - c.args.sub) c.args.add c.args.sub (c.loop-left.left - 1)
@@ -49,11 +49,11 @@ overflow_sub-at c = (next c).0
 pub bounds-l-at : goal.bounds-l-at
 bounds-l-at c = omega (arith, (next_2 c).1, c.loop-left.invariant.1)
 
-pub returns-then-v-eq-SURFACE : goal.returns-then-v-eq-SURFACE
-returns-then-v-eq-SURFACE c = record { l_after = sym (go_mark _ _ _ _ _ _ c.loop-left-test.true c.if-v-pass.true c.if-v-eq-SURFACE.true) ∙ c.loop-left.invariant.3; upper_bound = (omega arith, trail_mark _ _ _ _ _ _ _ _ (omega (arith, (next_3 c).1, c.loop-left.invariant.1)) c.loop-left.invariant.6) }
+pub returns-then-surface : goal.returns-then-surface
+returns-then-surface c = record { l_after = sym (go_mark _ _ _ _ _ _ c.loop-left-test.true c.if-v-pass.true c.if-surface.true) ∙ c.loop-left.invariant.3; upper_bound = (omega arith, trail_mark _ _ _ _ _ _ _ _ (omega (arith, (next_3 c).1, c.loop-left.invariant.1)) c.loop-left.invariant.6) }
 
 pub returns-then-v-pass : goal.returns-then-v-pass
-returns-then-v-pass c = record { l_after = sym (go_stop _ _ _ _ _ _ c.loop-left-test.true c.if-v-pass.true c.if-v-eq-SURFACE.false) ∙ c.loop-left.invariant.3; upper_bound = (omega arith, c.loop-left.invariant.6) }
+returns-then-v-pass c = record { l_after = sym (go_stop _ _ _ _ _ _ c.loop-left-test.true c.if-v-pass.true c.if-surface.false) ∙ c.loop-left.invariant.3; upper_bound = (omega arith, c.loop-left.invariant.6) }
 
 pub bounds-l-at-in-loop-left : goal.bounds-l-at-in-loop-left
 bounds-l-at-in-loop-left c = omega (arith, (next_4 c).1, c.loop-left.invariant.1)

@@ -20,24 +20,24 @@ x c = c.args.x
 abbrev x_2 : goal.Else-x → Float
 x_2 c = c.args.x
 
-abbrev x_3 : goal.Then-field-ge167 → Float
+abbrev x_3 : goal.Then-large → Float
 x_3 c = c.args.x
 
-abbrev digits : goal.Then-field-ge167 → ℕ
+abbrev digits : goal.Then-large → ℕ
 digits c = to_bits binary32 (x_3 c) % 8388608
 
-abbrev field : goal.Then-field-ge167 → ℕ
+abbrev field : goal.Then-large → ℕ
 field c = to_bits binary32 (x_3 c) % 2147483648 / 8388608
 
 -- what owning an `f32` tells: the format holds it
-held : (c : goal.Then-field-ge167) → T (fits binary32 (x_3 c))
+held : (c : goal.Then-large) → T (fits binary32 (x_3 c))
 held c = subst T (sym c.well_formed.0.1) tt
 
 -- the fields of x's pattern
-abbrev sign : goal.Then-field-ge167 → Bool
+abbrev sign : goal.Then-large → Bool
 sign c = leb 2147483648 (to_bits binary32 (x_3 c))
 
-is_x : (c : goal.Then-field-ge167) → of_fields binary32 (sign c) (field c) (digits c) ≡ x_3 c
+is_x : (c : goal.Then-large) → of_fields binary32 (sign c) (field c) (digits c) ≡ x_3 c
 is_x c = fields_are (x_3 c) (held c)
 
 abbrev x_4 : goal.After-shifted → Float
@@ -92,10 +92,10 @@ returns-then-x c = is_nan_lem (2 ^ c.args.places) (x c) c.if-x.true
 pub float_to_bits-bits : goal.float_to_bits-bits
 float_to_bits-bits c = no_nan (x_2 c) c.if-x.false
 
-pub returns-then-field-ge167 : goal.returns-then-field-ge167
-returns-then-field-ge167 c =
+pub returns-then-large : goal.returns-then-large
+returns-then-large c =
     let k = 2 ^ c.args.places in
-    floor_large k (sign c) (field c) (digits c) c.if-field-ge167.true (subst (λ (y : Float). T (not (is_nan y))) (sym (is_x c)) (no_nan (x_3 c) c.if-x.false))
+    floor_large k (sign c) (field c) (digits c) c.if-large.true (subst (λ (y : Float). T (not (is_nan y))) (sym (is_x c)) (no_nan (x_3 c) c.if-x.false))
     ∙ ap (floor_times k) (is_x c)
 
 pub returns-then-field-eq0 : goal.returns-then-field-eq0
@@ -110,5 +110,5 @@ pub returns : goal.returns
 returns c =
     let p = c.args.places in
     ap Of (to_z-of_z w64 c.shifted-2.result (sfits_of c.shifted-2.type_inv) ∙ c.shifted-2.ensures)
-    ∙ floor_field p (sign_3 c) (field_3 c) (digits_3 c) (short_2 c) c.requires c.if-field-ge167.false c.if-field-eq0.false
+    ∙ floor_field p (sign_3 c) (field_3 c) (digits_3 c) (short_2 c) c.requires c.if-large.false c.if-field-eq0.false
     ∙ ap (floor_times (2 ^ p)) (is_x_3 c)
