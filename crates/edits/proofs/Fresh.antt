@@ -13,7 +13,7 @@ use Rattle.grid.specs.Paths.{starts, steps, Through}
 use Rattle.grid.proofs.Cells.{dec_cell, not_both, here, there, swap_face}
 use Rattle.grid.proofs.Floods.{aired_open, outside_means}
 use Rattle.grid.proofs.Paths.{joined_in, joined_kind, joined_within}
-use Rattle.edits.specs.Edits.{opening, closing, MeetsAir, Opens, aired, unreached, alone, other, lidded, HasWay, Closes, lid, sealed, stays}
+use Rattle.edits.specs.Edits.{MeetsAir, Opens, aired, unreached, alone, other, lidded, HasWay, Closes, lid, sealed, stays}
 
 -- fewer surface cells, more cells with a path to the border
 pub aired_more : (r : Axes) (l m : List ℕ) → ((c : Cell) → InGrid r c → at r m c ≡ 8 → at r l c ≡ 8) → {c : Cell} → Aired r l c → Aired r m c

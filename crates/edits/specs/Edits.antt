@@ -1,5 +1,5 @@
 -- 01, Edits: opening and closing a cell of any grid of labels 6, 7 and 8. Definitions only.
-use Rattle.std.specs.Prelude.{true, false, cond, not, ◌⊎◌, ◌≡◌, List, [], ◌∷◌, ℕ, ◌+◌, eqb, length, set}
+use Rattle.std.specs.Prelude.{true, false, cond, ◌⊎◌, ◌≡◌, List, [], ◌∷◌, ℕ, ◌+◌, eqb, length, set}
 use Rattle.grid.specs.declared.Axes.{Axes}
 use Rattle.grid.specs.declared.Cell.{Cell}
 use Rattle.grid.specs.declared.Checked.{Checked}

@@ -1,5 +1,5 @@
 -- A law of specs/Checks.antt: what it is for a cell to be of the grid. Assumes nothing.
-use mathlib.Core.Bool.{true, not, ◌&&◌}
+use mathlib.Core.Bool.{true, ◌&&◌}
 use mathlib.Core.Logic.{◌↔◌}
 use mathlib.Core.Path.{◌≡◌}
 use lib.Dec.{ltb}

@@ -9,7 +9,7 @@ use lib.Dec.{eqb, ltb}
 use lib.ListN.{length, get_or, set, length-set}
 use Rattle.grid.specs.declared.Axes.{Axes}
 use Rattle.grid.specs.declared.Cell.{Cell}
-use Rattle.grid.specs.Counts.{count, count_of}
+use Rattle.grid.specs.Counts.{count_of}
 use Rattle.grid.specs.Grid.{num, cells, InGrid, at, Sheet, Face, Border, on_border}
 use Rattle.grid.specs.Paths.{Joined, starts, steps, Only, Through}
 use Rattle.grid.specs.Ways.{room, beside, counter}

@@ -13,7 +13,7 @@ use Rattle.grid.specs.declared.Cell.{Cell}
 use Rattle.grid.specs.Grid.{num, cells, InGrid, at, Sheet}
 use Rattle.grid.specs.Passes.{becomes, Within}
 use Rattle.grid.specs.Ways.{beside}
-use Rattle.grid.proofs.Cells.{dec_eq, num_lt, there}
+use Rattle.grid.proofs.Cells.{dec_eq, num_lt}
 use Rattle.grid.proofs.First.{le_or_lt}
 use Rattle.edits_reach.specs.declared.Seen.{Seen}
 use Rattle.edits_reach.specs.Reach.{way_of, Sees}

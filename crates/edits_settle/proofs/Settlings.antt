@@ -15,7 +15,7 @@ use Rattle.grid.specs.Grid.{num, cells, InGrid, at, Sheet, Face}
 use Rattle.grid.specs.Passes.{becomes, Within}
 use Rattle.grid.specs.Paths.{starts, steps, Through}
 use Rattle.grid.specs.Ways.{room, beside}
-use Rattle.grid.proofs.Cells.{dec_eq, not_both, num_lt, there, stored, swap_face, cells_max}
+use Rattle.grid.proofs.Cells.{dec_eq, not_both, num_lt, stored, swap_face, cells_max}
 use Rattle.grid.proofs.Counts.{count_most, count_none}
 use Rattle.grid.proofs.First.{le_or_lt}
 use Rattle.grid.proofs.Paths.{joined_in, joined_kind, joined_within, joined_more, joined_trans, joined_back}

@@ -11,7 +11,7 @@ use lib.ListN.{length, get_or, set, replicate, length-set, length-replicate, get
 use lib.Seq.{get_or-set_same, get_or-set_other}
 use Rattle.grid.specs.declared.Axes.{Axes}
 use Rattle.grid.specs.declared.Cell.{Cell}
-use Rattle.grid.specs.Grid.{num, cells, InGrid, Sound, at}
+use Rattle.grid.specs.Grid.{num, InGrid, Sound, at}
 use Rattle.grid.proofs.Cells.{dec_eq, num_inj}
 use Rattle.grid.proofs.Checks.{or_false, not_false}
 use Rattle.fill_walks.specs.declared.Phase.{Phase}

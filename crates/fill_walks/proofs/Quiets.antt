@@ -1,5 +1,5 @@
 -- Laws of specs/Quiet.antt: a visit of an idle cell changes nothing, a quiet cell that is to walk may be set before its turn, and what is idle or quiet stays so. Assumes nothing.
-use mathlib.Core.Bool.{Bool, true, false, cond, true≢false}
+use mathlib.Core.Bool.{Bool, true, cond, true≢false}
 use mathlib.Core.Logic.{◌⊎◌, inl, inr}
 use mathlib.Core.Path.{◌≡◌, refl, sym, ap, subst, ◌∙◌}
 use mathlib.Core.List.{List, [], ◌∷◌}

@@ -1,5 +1,5 @@
 -- Laws of specs/Flood.antt: each label says exactly what it should, and two fills of the same surface cells coincide. Assumes nothing.
-use mathlib.Core.Logic.{◌⊎◌, ⊎_elim, ◌↔◌}
+use mathlib.Core.Logic.{⊎_elim, ◌↔◌}
 use mathlib.Core.Path.{◌≡◌, sym, ◌∙◌}
 use mathlib.Core.List.{List}
 use Prim.Native.Nat.{ℕ}

@@ -1,5 +1,5 @@
 -- From counts to places: the loop that gives each record an empty range where those before it will end. Assumes nothing.
-use mathlib.Core.Logic.{◌⊎◌, inr, ⊎_elim}
+use mathlib.Core.Logic.{inr, ⊎_elim}
 use mathlib.Core.Path.{◌≡◌, refl, sym, ap, ◌∙◌}
 use mathlib.Core.List.{List}
 use Prim.Native.Nat.{ℕ, zero, suc, ◌+◌, ◌*◌, ◌≤◌, ◌<◌}

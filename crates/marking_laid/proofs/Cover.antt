@@ -7,11 +7,11 @@ use native.Mathlib.Nat.{le_trans, le_of_eq, mul-le-mul, mul-pos, mul-one, one-mu
 use native.Mathlib.Omega.{arith}
 use lib.Dec.{T, ltb, eqb, leb→le, lit≤}
 use lib.IntN.{ℤ, pos}
-use lib.Ieee.{Float, nan, inf, fin, binary32, up, down, size, round, sum, neg, sub, mul, div, le, below, level}
+use lib.Ieee.{Float, nan, inf, fin, binary32, up, down, round, sum, neg, sub, mul, div, le, below, level}
 use lib.Ieee.Fits.{down_pos}
 use lib.Ieee.Order.{round_mono}
 use lib.Ieee.Scale.{finite}
-use lib.Ieee.Positive.{num, den, den_pos, between}
+use lib.Ieee.Positive.{num, den, den_pos}
 use Prim.Native.Nat.{zero-le}
 use borrow.Author.Tests.{ltb-false, leb-true, eqb-true, lt-ltb, le-ltb, le-leb}
 use Rattle.grid.proofs.First.{both_true}
@@ -20,7 +20,6 @@ use Rattle.numbers.specs.Rounding.{units, half, limit, pick_whole, nearest_of}
 use Rattle.numbers.proofs.Order.{eqb_sym, le_test}
 use Rattle.numbers.proofs.Sign.{round_negated, round_none, sub_mul}
 use Rattle.sizing.specs.Points.{bounded}
-use Rattle.sizing.specs.Sizing.{extent}
 use Rattle.sizing.proofs.Ranges.{extent_finite}
 use Rattle.sizing.proofs.Ratio.{Extent, difference}
 use Rattle.marking_mesh.specs.Mesh.{whole_units, units_at, on_axis}

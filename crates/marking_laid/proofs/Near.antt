@@ -7,14 +7,14 @@ use native.Mathlib.Nat.{le_trans, le_of_eq, mul-pos, mul-one, mul-le-mul_left, m
 use native.Mathlib.Omega.{arith}
 use lib.Dec.{T, eqb, lit≤, lit<}
 use lib.Pow.{pow_pos, pow-add}
-use lib.Ieee.{Float, nan, inf, fin, binary32, up, down, size, round, mul, div, below}
+use lib.Ieee.{Float, nan, inf, fin, binary32, up, down, size, round, mul, div}
 use lib.Ieee.Digits.{size_reaches}
 use lib.Ieee.Fits.{nearest-le}
 use lib.Ieee.Exact.{HasValue, round_exact}
 use lib.Ieee.Nearest.{closest, nearest-ge}
 use lib.Ieee.Order.{drop, kept}
 use lib.Ieee.Scale.{finite, round_val, round_under}
-use lib.Ieee.Positive.{num, den, den_pos, above, value→cross, first_pos}
+use lib.Ieee.Positive.{num, den, den_pos, value→cross, first_pos}
 use borrow.Author.Tests.{ne_eqb}
 use Rattle.grid.proofs.First.{le_or_lt}
 use Rattle.sizing.proofs.Ratio.{Exact, round_capped}

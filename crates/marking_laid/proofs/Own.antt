@@ -41,7 +41,7 @@ use Rattle.marking_mesh.specs.Faults.{missing_fault, off_fault}
 use Rattle.marking_mesh.proofs.Laws.{named}
 use Rattle.marking_mesh.specs.Mesh.{units_at, vertex_of, on_axis, on_grid}
 use Rattle.marking_laid.proofs.Near.{plain, Near, value_plain, near, mul_is, div_is, div_near}
-use Rattle.marking_laid.proofs.Cover.{inverse, little, times, le_at_most, extent_kinds, Scale, point_on}
+use Rattle.marking_laid.proofs.Cover.{inverse, le_at_most, extent_kinds, Scale, point_on}
 
 -- ---- of extents and rounded quotients
 

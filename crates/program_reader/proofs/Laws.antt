@@ -13,7 +13,6 @@ use Rattle.program_reader.specs.declared.Taken.{Taken}
 use Rattle.program_reader.specs.declared.Head.{Head}
 use Rattle.program_reader.specs.declared.Kind.TheVariants as Kind
 use Rattle.program_reader.specs.declared.Mark.{Mark}
-use Rattle.program_reader.specs.declared.Mark.TheVariants as Mark
 use Rattle.program_reader.specs.declared.Start.TheVariants as Start
 use Rattle.program_reader.specs.declared.Step.{Step}
 use Rattle.program_reader.specs.Records.{bytes_at, mark_at, head_by, start_by, start_with, start_at, refused, whole, step_by, step_at}

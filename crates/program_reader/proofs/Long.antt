@@ -9,7 +9,6 @@ use lib.Ieee.{Float, binary32, of_bits}
 use lib.ListN.{length, get_or, length-append, get_or-append}
 use borrow.Author.Tests.{lt-ltb, le-ltb}
 use Rattle.grid.specs.Answers.{Outcome}
-use Rattle.sizing.specs.declared.Point.{Point}
 use Rattle.program_words.specs.Words.{word_at}
 use Rattle.program_reader.specs.declared.Bytes.{Bytes}
 use Rattle.program_reader.specs.declared.Bytes.TheVariants.{There, Cut}
@@ -17,10 +16,8 @@ use Rattle.program_reader.specs.declared.Head.{Head}
 use Rattle.program_reader.specs.declared.Taken.{Taken}
 use Rattle.program_reader.specs.declared.Kind.TheVariants as Kind
 use Rattle.program_reader.specs.declared.Mark.{Mark}
-use Rattle.program_reader.specs.declared.Mark.TheVariants as Mark
 use Rattle.program_reader.specs.declared.InputRecord.TheVariants as InputRecord
 use Rattle.program_reader.specs.declared.Step.{Step}
-use Rattle.program_reader.specs.declared.Step.TheVariants as Step
 use Rattle.program_reader.specs.Records.{bytes_at, mark_of_bytes, mark_at, head_of, head_by, start_by, start_with, start_at, refused, whole, point_from, corners_from, step_by, step_at}
 use Rattle.program_reader.specs.Reading.{Stream, taken_so_far, coordinates_of, corners_of, Reads, Read}
 use Rattle.program_reader.proofs.Readings.{point_taken, triangle_taken}

@@ -21,11 +21,8 @@ use Rattle.program_reader.specs.declared.Corners.{Corners}
 use Rattle.program_reader.specs.declared.Taken.{Taken}
 use Rattle.program_reader.specs.declared.Kind.TheVariants as Kind
 use Rattle.program_reader.specs.declared.Mark.{Mark}
-use Rattle.program_reader.specs.declared.Mark.TheVariants as Mark
 use Rattle.program_reader.specs.declared.InputRecord.{InputRecord}
-use Rattle.program_reader.specs.declared.InputRecord.TheVariants as InputRecord
 use Rattle.program_reader.specs.declared.Step.{Step}
-use Rattle.program_reader.specs.declared.Step.TheVariants as Step
 use Rattle.program_reader.specs.Records.{bytes_at, mark_at, whole, corners_from, triangle_step, step_by, step_at}
 use Rattle.program_reader.specs.Reading.{Stream, taken_so_far, coordinates_of, corners_of, Reads}
 use Rattle.program_reader.proofs.Laws.{there}

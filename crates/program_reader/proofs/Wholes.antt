@@ -20,17 +20,11 @@ use Rattle.program_reader.specs.declared.Head.{Head}
 use Rattle.program_reader.specs.declared.Corners.{Corners}
 use Rattle.program_reader.specs.declared.Taken.{Taken}
 use Rattle.program_reader.specs.declared.Kind.{Kind}
-use Rattle.program_reader.specs.declared.Kind.TheVariants as Kind
 use Rattle.program_reader.specs.declared.Mark.{Mark}
-use Rattle.program_reader.specs.declared.Mark.TheVariants as Mark
 use Rattle.program_reader.specs.declared.InputRecord.{InputRecord}
-use Rattle.program_reader.specs.declared.InputRecord.TheVariants as InputRecord
 use Rattle.program_reader.specs.declared.Step.{Step}
-use Rattle.program_reader.specs.declared.Step.TheVariants as Step
 use Rattle.program_reader.specs.declared.Modes.{Modes}
-use Rattle.program_reader.specs.declared.Modes.TheVariants as Modes
 use Rattle.program_reader.specs.declared.SizingWays.{SizingWays}
-use Rattle.program_reader.specs.declared.SizingWays.TheVariants as SizingWays
 use Rattle.program_reader.specs.declared.Start.TheVariants as Start
 use Rattle.program_reader.specs.Records.{bytes_at, sizing_way_of, mode_of, head_with, head_by, start_by, start_with, start_at, letter_of, mark_of_bytes, mark_at, refused, whole, point_from, corners_from, step_by, step_at}
 use Rattle.program_reader.specs.Reading.{Stream, taken_so_far, coordinates_of, corners_of, Reads, Read}

@@ -7,7 +7,6 @@ use Rattle.program_reader.specs.declared.Head.{Head}
 use Rattle.program_reader.specs.declared.Corners.{Corners}
 use Rattle.program_reader.specs.declared.Taken.{Taken}
 use Rattle.program_reader.specs.declared.Reading.{Reading}
-use Rattle.program_reader.specs.declared.Reading.TheVariants as Reading
 use Rattle.program_reader.specs.declared.Start.TheVariants as Start
 use Rattle.program_reader.specs.declared.InputRecord.TheVariants as InputRecord
 use Rattle.program_reader.specs.declared.Step.TheVariants as Step

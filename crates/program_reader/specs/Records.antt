@@ -7,21 +7,16 @@ use Rattle.sizing.specs.declared.Point.{Point}
 use Rattle.program_words.specs.Words.{word_at, float_at}
 use Rattle.program_reader.specs.declared.Kind.TheVariants as Kind
 use Rattle.program_reader.specs.declared.Mark.{Mark}
-use Rattle.program_reader.specs.declared.Mark.TheVariants as Mark
 use Rattle.program_reader.specs.declared.Bytes.{Bytes}
 use Rattle.program_reader.specs.declared.Bytes.TheVariants.{There, Cut}
 use Rattle.program_reader.specs.declared.SizingWay.TheVariants.{Size, Resolution}
 use Rattle.program_reader.specs.declared.SizingWays.{SizingWays}
-use Rattle.program_reader.specs.declared.SizingWays.TheVariants as SizingWays
 use Rattle.program_reader.specs.declared.Modes.{Modes}
-use Rattle.program_reader.specs.declared.Modes.TheVariants as Modes
 use Rattle.program_reader.specs.declared.Corners.{Corners}
 use Rattle.program_reader.specs.declared.Taken.{Taken}
 use Rattle.program_reader.specs.declared.Start.{Start}
-use Rattle.program_reader.specs.declared.Start.TheVariants as Start
 use Rattle.program_reader.specs.declared.InputRecord.TheVariants as InputRecord
 use Rattle.program_reader.specs.declared.Step.{Step}
-use Rattle.program_reader.specs.declared.Step.TheVariants as Step
 use Rattle.grid.specs.Refusals.{BAD_COUNT, BAD_RECORD, CUT_INPUT}
 
 -- whether n bytes stand in the input s from a place on

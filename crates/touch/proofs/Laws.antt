@@ -12,14 +12,11 @@ use mir.Syntax.{w64}
 use mir.Facts.{to_z-of_z}
 use mir.Val.{SFits, to_z, of_z}
 use Rattle.grid.specs.declared.Cell.{Cell}
-use Rattle.grid.proofs.First.{both_true}
 use Rattle.numbers.specs.Rounding.{units, half}
 use Rattle.ints.specs.Bound.{In, Val, Each, got, in_add, in_sub, in_mul, in_abs, in_lit, in_up, in_eq, in3, cons3}
 use Rattle.ints.specs.Casts.{of_unsigned}
 use Rattle.ints.specs.Order.{ap2, lesser, greater, le_not, lt_lesser, lt_greater, lt_less, lt_more}
 use Rattle.ints.specs.Ring.{ap3, mul_assoc}
-use Rattle.touch.specs.declared.Band.{Band}
-use Rattle.touch.specs.declared.Bands.{Bands}
 use Rattle.touch.specs.declared.Three.{Three}
 use Rattle.touch.specs.Touch.{along, vertex, centre, dot_z, cube_reach, edge, cross, axis_x, axis_y, axis_z, axes, edge_of, normal, with_axes, all_above, all_below, apart, some_apart, touching}
 use Rattle.touch.specs.Bands.{band_of, three_of, products_of, bands_of, kept, kept_three, kept_all, VertexFits, TriangleFits, EdgeFits, DirectionFits, BandFits, ThreeFit, Axial, Crosswise, BandsFit, CoordinatesFit, CellFits}

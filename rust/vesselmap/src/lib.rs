@@ -7,7 +7,7 @@
 //!
 //! # The library
 //!
-//! One step: `rt staticlib capi` at the repository's root proves the library and writes `target/staticlib/libcapi.a`,
+//! One step: `rt lib` in the repository's folder `crates/capi` proves the library and writes `crates/capi/out/libcapi.a`,
 //! where this crate looks for it. Where it lies in another folder, the environment variable `VESSELMAP_LIB` names that folder.
 //!
 //! # The whole way

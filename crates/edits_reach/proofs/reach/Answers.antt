@@ -1,6 +1,5 @@
 -- `edits_reach::reach` meets its contract: each turn keeps where the trip stands, and has less to do. Assumes nothing.
 use mathlib.Core.Path.{refl}
-use mathlib.Core.Bool.{true, false}
 use native.Mathlib.Omega.{arith}
 use Rattle.edits_reach.proofs.Going.{Going, start, in_c, sheet, place, few_set, skipped, some, pushed, in_e, place_e, pushed_less, walked, popped_less, label_low, way_low, back_room, popped}
 use Rattle.edits_reach.proofs.reach.Goals as goal

@@ -1,5 +1,5 @@
 -- `fill_early::early_cells` meets its contract: up to here cells were set before their turn, or are idle, or one may act (`EarlyLoop`). Assumes nothing.
-use mathlib.Core.Bool.{false, true, true≢false}
+use mathlib.Core.Bool.{false, true≢false}
 use mathlib.Core.Path.{◌≡◌, sym, subst, ◌∙◌}
 use Prim.Native.Nat.{ℕ}
 use native.Mathlib.Omega.{arith}

@@ -2,7 +2,7 @@
 use mathlib.Core.Path.{◌∙◌}
 use native.Mathlib.Omega.{arith}
 use Rattle.grid.proofs.Cells.{sheet_kept}
-use Rattle.fill_scans.proofs.Rounds.{slabs_low, not_true}
+use Rattle.fill_scans.proofs.Rounds.{slabs_low}
 use Rattle.fill_scans.proofs.scan_block.Goals as goal
 
 pub returns-then-not-some_raised : goal.returns-then-not-some_raised

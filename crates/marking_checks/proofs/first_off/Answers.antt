@@ -1,7 +1,7 @@
 -- `marking_checks::first_off` meets its contract. The loop's invariant is `Looking`: the place is still to be found, from k on. Assumes nothing.
 use mathlib.Core.Path.{sym, ap, ◌∙◌}
 use Rattle.grid.proofs.First.{looking_on, looking_here, looking_done}
-use Rattle.marking_mesh.specs.Mesh.{on_grid, vertex_of}
+use Rattle.marking_mesh.specs.Mesh.{on_grid}
 use Rattle.marking_checks.proofs.first_off.Goals as goal
 
 pub loop-k-preserved : goal.loop-k-preserved

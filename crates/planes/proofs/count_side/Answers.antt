@@ -1,7 +1,6 @@
 -- `planes::count_side` meets its contract: after v turns those of the first v points that go to the side are counted. Assumes nothing.
 use mathlib.Core.Path.{◌≡◌, sym, subst, ◌∙◌}
 use mathlib.Core.Bool.{Bool, true, false}
-use mathlib.Core.Logic.{⊎_elim}
 use Prim.Native.Nat.{ℕ, ◌+◌}
 use Rattle.sizing.specs.Sizing.{coord}
 use Rattle.planes.specs.Split.{goes_to}

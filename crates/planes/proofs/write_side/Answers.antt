@@ -1,7 +1,6 @@
 -- `planes::write_side` meets its contract: after v turns those of the first v points that go to the side are written. Assumes nothing.
 use mathlib.Core.Path.{◌≡◌, sym, ◌∙◌}
 use mathlib.Core.Bool.{Bool, true, false}
-use mathlib.Core.Logic.{⊎_elim}
 use Rattle.sizing.specs.Sizing.{coord}
 use Rattle.planes.specs.Split.{goes_to}
 use Rattle.planes.proofs.Sums.{parted_none, parted_is, parted_room, parted_more, parted_same}

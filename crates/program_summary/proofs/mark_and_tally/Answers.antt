@@ -4,7 +4,6 @@ use mathlib.Core.List.{List}
 use Prim.Native.Nat.{ℕ}
 use Rattle.grid.specs.declared.Checked.TheVariants.{Fine}
 use Rattle.fill.specs.Modes.{fill_fault}
-use Rattle.marking.specs.Marked as marked
 use Rattle.program_summary.proofs.Laws.{is_marked, marks_fine}
 use Rattle.program_summary.proofs.mark_and_tally.Goals as goal
 
