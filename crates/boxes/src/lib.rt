@@ -29,10 +29,10 @@ fn write_boxes(
     triangles: &mut [u32],
 )
     requires sheet { Sheet r labels.now }
-    requires labels_in_bounds { 24 * count_of label labels.now ≤ length points.old }
-    requires labels_in_bounds_2 { 36 * count_of label labels.now ≤ length triangles.old }
+    requires points_room { 24 * count_of label labels.now ≤ length points.old }
+    requires triangles_room { 36 * count_of label labels.now ≤ length triangles.old }
     ensures written { Written nan 0 (box_points placement (box_cells r labels.now label)) points.old points.new }
-    ensures written_2 { Written 0 0 (box_triangles 0 (length (box_cells r labels.now label))) triangles.old triangles.new }
+    ensures triangles_written { Written 0 0 (box_triangles 0 (length (box_cells r labels.now label))) triangles.old triangles.new }
 {
     let mut n = 0usize;
     let mut next = Cell { i: 0, j: 0, k: 0 };
@@ -43,7 +43,8 @@ fn write_boxes(
             let b = n;
             n += 1;
             boxes_corners::put_corners(points, 24 * b, placement, c);
-            boxes_corners::put_triangles(triangles, 36 * b, (8 * b) as u32);
+            let base = (8 * b) as u32;
+            boxes_corners::put_triangles(triangles, 36 * b, base);
         }
     }
 }
@@ -95,7 +96,7 @@ pub fn boxes(
     points: &mut [f32],
     triangles: &mut [u32],
 ) -> Boxing
-    ensures result_value { outcome result ≡ boxes_answer labels.now r placement label points.old triangles.old }
+    ensures answer { outcome result ≡ boxes_answer labels.now r placement label points.old triangles.old }
     ensures points_after { points.new ≡ points_buffer labels.now r placement label points.old triangles.old }
     ensures triangles_after { triangles.new ≡ triangles_buffer labels.now r placement label points.old triangles.old }
 {

@@ -53,7 +53,7 @@ pub extern "C" fn vm_mark(
     placement: Placement,
     labels: &mut [u8],
 ) -> Verdict
-    ensures result_value { verdict result ≡ flat_of tt (markings.mark_answer points.now triangles.now (to_axes r) (to_placement placement) labels.old) }
+    ensures answer { verdict result ≡ flat_of tt (markings.mark_answer points.now triangles.now (to_axes r) (to_placement placement) labels.old) }
     ensures labels_after { labels.new ≡ markings.mark_labels points.now triangles.now (to_axes r) (to_placement placement) labels.old }
 {
     capi_flat::of_marking(marking::mark(
@@ -68,7 +68,7 @@ pub extern "C" fn vm_mark(
 #[unsafe(no_mangle)]
 pub extern "C" fn vm_fill_surface(labels: &mut [u8], r: Axes) -> Filled
     ensures tells { Tells no_fill (λ o. Ends (fills.fill_fault (to_axes r) labels.old) labels.old (fills.Fills SurfaceOnly (to_axes r) labels.old) o labels.new) (filled result) }
-    ensures tells_2 { Tells no_fill (λ o. Ends (fills.fill_fault (to_axes r) labels.old) labels.old (fills.Means SurfaceOnly (to_axes r) labels.old) o labels.new) (filled result) }
+    ensures means { Tells no_fill (λ o. Ends (fills.fill_fault (to_axes r) labels.old) labels.old (fills.Means SurfaceOnly (to_axes r) labels.old) o labels.new) (filled result) }
 {
     capi_flat::of_filling(fill::fill(labels, capi_flat::to_axes(r), Mode::SurfaceOnly))
 }
@@ -76,7 +76,7 @@ pub extern "C" fn vm_fill_surface(labels: &mut [u8], r: Axes) -> Filled
 #[unsafe(no_mangle)]
 pub extern "C" fn vm_fill_flood(labels: &mut [u8], r: Axes) -> Filled
     ensures tells { Tells no_fill (λ o. Ends (fills.fill_fault (to_axes r) labels.old) labels.old (fills.Fills Flood (to_axes r) labels.old) o labels.new) (filled result) }
-    ensures tells_2 { Tells no_fill (λ o. Ends (fills.fill_fault (to_axes r) labels.old) labels.old (fills.Means Flood (to_axes r) labels.old) o labels.new) (filled result) }
+    ensures means { Tells no_fill (λ o. Ends (fills.fill_fault (to_axes r) labels.old) labels.old (fills.Means Flood (to_axes r) labels.old) o labels.new) (filled result) }
 {
     capi_flat::of_filling(fill::fill(labels, capi_flat::to_axes(r), Mode::Flood))
 }
@@ -84,7 +84,7 @@ pub extern "C" fn vm_fill_flood(labels: &mut [u8], r: Axes) -> Filled
 #[unsafe(no_mangle)]
 pub extern "C" fn vm_fill_cavities(labels: &mut [u8], r: Axes) -> Filled
     ensures tells { Tells no_fill (λ o. Ends (fills.fill_fault (to_axes r) labels.old) labels.old (fills.Fills Cavities (to_axes r) labels.old) o labels.new) (filled result) }
-    ensures tells_2 { Tells no_fill (λ o. Ends (fills.fill_fault (to_axes r) labels.old) labels.old (fills.Means Cavities (to_axes r) labels.old) o labels.new) (filled result) }
+    ensures means { Tells no_fill (λ o. Ends (fills.fill_fault (to_axes r) labels.old) labels.old (fills.Means Cavities (to_axes r) labels.old) o labels.new) (filled result) }
 {
     capi_flat::of_filling(fill::fill(labels, capi_flat::to_axes(r), Mode::Cavities))
 }
@@ -107,7 +107,7 @@ pub extern "C" fn vm_close_cell(labels: &mut [u8], r: Axes, c: Cell) -> Counted
 
 #[unsafe(no_mangle)]
 pub extern "C" fn vm_list_cells(labels: &[u8], r: Axes, records: &mut [u32]) -> Listed
-    ensures result_value { listing result ≡ flat_of no_list (lists.cells_answer labels.now (to_axes r) records.old) }
+    ensures answer { listing result ≡ flat_of no_list (lists.cells_answer labels.now (to_axes r) records.old) }
     ensures records_after { records.new ≡ lists.cells_buffer labels.now (to_axes r) records.old }
 {
     capi_flat::of_listing(list::list_cells(labels, capi_flat::to_axes(r), records))
@@ -123,7 +123,7 @@ pub extern "C" fn vm_list_pairs(
     records: &mut [u32],
     list: &mut [u32],
 ) -> Listed
-    ensures result_value { listing result ≡ flat_of no_list (pairs_answer points.now triangles.now (to_axes r) (to_placement placement) labels.now records.old list.old) }
+    ensures answer { listing result ≡ flat_of no_list (pairs_answer points.now triangles.now (to_axes r) (to_placement placement) labels.now records.old list.old) }
     ensures records_after { records.new ≡ records_buffer points.now triangles.now (to_axes r) (to_placement placement) labels.now records.old list.old }
     ensures list_after { list.new ≡ triangles_buffer points.now triangles.now (to_axes r) (to_placement placement) labels.now records.old list.old }
 {
@@ -170,7 +170,7 @@ pub extern "C" fn vm_classify(
     count: usize,
     classes: &mut [u32],
 ) -> Verdict
-    ensures result_value { verdict result ≡ flat_of tt (classings.class_answer entries.now ends.now count classes.old) }
+    ensures answer { verdict result ≡ flat_of tt (classings.class_answer entries.now ends.now count classes.old) }
     ensures classes_after { classes.new ≡ classings.class_buffer entries.now ends.now count classes.old }
 {
     capi_flat::of_classing(classes::classify(entries, ends, count, classes))
@@ -186,7 +186,7 @@ pub extern "C" fn vm_planes(
     step: usize,
     ds: &mut [f32],
 ) -> Planned
-    ensures result_value { planned result ≡ flat_of no_planes (planes_answer (to_placement placement) axis low high best step ds.old) }
+    ensures answer { planned result ≡ flat_of no_planes (planes_answer (to_placement placement) axis low high best step ds.old) }
     ensures ds_after { ds.new ≡ planes_buffer (to_placement placement) axis low high best step ds.old }
 {
     capi_flat::of_planing(planes::planes_about(
@@ -208,7 +208,7 @@ pub extern "C" fn vm_split(
     above: &mut [f32],
     below: &mut [f32],
 ) -> Parted
-    ensures result_value { parted result ≡ flat_of no_sides (split_answer points.now axis d above.old below.old) }
+    ensures answer { parted result ≡ flat_of no_sides (split_answer points.now axis d above.old below.old) }
     ensures above_after { above.new ≡ split_buffer First points.now axis d above.old above.old below.old }
     ensures below_after { below.new ≡ split_buffer Second points.now axis d below.old above.old below.old }
 {
@@ -224,7 +224,7 @@ pub extern "C" fn vm_boxes(
     points: &mut [f32],
     triangles: &mut [u32],
 ) -> Counted
-    ensures result_value { counted result ≡ flat_of 0 (boxings.boxes_answer labels.now (to_axes r) (to_placement placement) label points.old triangles.old) }
+    ensures answer { counted result ≡ flat_of 0 (boxings.boxes_answer labels.now (to_axes r) (to_placement placement) label points.old triangles.old) }
     ensures points_after { points.new ≡ boxings.points_buffer labels.now (to_axes r) (to_placement placement) label points.old triangles.old }
     ensures triangles_after { triangles.new ≡ boxings.triangles_buffer labels.now (to_axes r) (to_placement placement) label points.old triangles.old }
 {

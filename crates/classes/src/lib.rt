@@ -156,7 +156,7 @@ fn classify_parts(classes: &mut [u32], entries: &[u32], ends: &[u32], count: usi
 // Writes the class of each of `count` triangles, from the entries of all parts, one part after the
 // other, and the end of each part; or refuses and writes nothing.
 pub fn classify(entries: &[u32], ends: &[u32], count: usize, classes: &mut [u32]) -> Classing
-    ensures result_value { outcome result ≡ class_answer entries.now ends.now count classes.old }
+    ensures answer { outcome result ≡ class_answer entries.now ends.now count classes.old }
     ensures classes_after { classes.new ≡ class_buffer entries.now ends.now count classes.old }
 {
     match class_fault(entries, ends, count, classes.len()) {

@@ -53,7 +53,7 @@ fn room_for(r: Axes, c: Cell, d: u8) -> usize
 // The neighbour that way.
 pub fn neighbour(r: Axes, c: Cell, d: u8) -> Cell
     requires in_grid { InGrid r c }
-    requires c_nonzero { 0 < room r (way_of d) c }
+    requires has_room { 0 < room r (way_of d) c }
     ensures { result ≡ beside (way_of d) c }
 {
     let i = c.i;
@@ -80,7 +80,7 @@ pub fn neighbour(r: Axes, c: Cell, d: u8) -> Cell
 // Its number; n is c's.
 fn number_ahead(r: Axes, c: Cell, n: usize, d: u8) -> usize
     requires sound { Sound r × InGrid r c × (n ≡ num r c) }
-    requires c_nonzero { 0 < room r (way_of d) c }
+    requires has_room { 0 < room r (way_of d) c }
     ensures { result ≡ num r (beside (way_of d) c) }
 {
     if d == 0 {
@@ -213,7 +213,8 @@ pub fn reach(l: &mut [u8], r: Axes, s: Cell, pass: u8, done: u8, stop: bool) -> 
         let v = l[n];
         l[n] = done;
         count += 1;
-        if v == START {
+        let back_at_start = v == START;
+        if back_at_start {
             return Trip { count, met };
         }
         let back = opposite(v - UNDER_WAY);

@@ -169,7 +169,7 @@ fn taken_marks() -> LabelSet
 // Fills a map whose labels are 0 and 8, or refuses and writes nothing.
 pub fn fill(labels: &mut [u8], r: Axes, mode: Mode) -> Filling
     ensures ends { Ends (fill_fault r labels.old) labels.old (Fills mode r labels.old) (outcome result) labels.new }
-    ensures ends_2 { Ends (fill_fault r labels.old) labels.old (Means mode r labels.old) (outcome result) labels.new }
+    ensures means { Ends (fill_fault r labels.old) labels.old (Means mode r labels.old) (outcome result) labels.new }
 {
     match grid::map_fault(labels, r, taken_marks()) {
         Checked::Fault(f) => Filling::Refused(f),

@@ -215,8 +215,8 @@ fn early_sixteen(
     before: usize,
 ) -> Progress
     requires sheet { Sheet r l.old × Clear p }
-    requires i_nonzero { (0 < c.i) × (c.i + 16 < r.r0) × (c.j < r.r1) × (c.k < r.r2) × Countable before 256 }
-    requires n_value { (n ≡ num r c) × ((v : ℕ) → is_walker p.walkers v ≡ true → v ≡ other) }
+    requires with_neighbours { (0 < c.i) × (c.i + 16 < r.r0) × (c.j < r.r1) × (c.k < r.r2) × Countable before 256 }
+    requires numbered { (n ≡ num r c) × ((v : ℕ) → is_walker p.walkers v ≡ true → v ≡ other) }
     ensures early_same { EarlySame p r c.i (c.i + 16) l.old before l.new result.walked }
     ensures i_bound { (result.walked + c.i ≤ before + (c.i + 16)) × IdleUnless p r l.new result.acting (InRow c.i (c.i + 16) c.j c.k) }
 {
@@ -256,7 +256,7 @@ fn early_sixteen(
 // Sixteen such cells, of which one may be to walk or walk.
 fn early_some(l: &mut [u8], p: Phase, r: Axes, c: Cell, before: usize) -> Progress
     requires sheet { Sheet r l.old × Clear p }
-    requires i_nonzero { (0 < c.i) × (c.i + 16 < r.r0) × (c.j < r.r1) × (c.k < r.r2) × Countable before 256 }
+    requires with_neighbours { (0 < c.i) × (c.i + 16 < r.r0) × (c.j < r.r1) × (c.k < r.r2) × Countable before 256 }
     ensures early_same { EarlySame p r c.i (c.i + 16) l.old before l.new result.walked }
     ensures i_bound { (result.walked + c.i ≤ before + (c.i + 16)) × IdleUnless p r l.new result.acting (InRow c.i (c.i + 16) c.j c.k) }
 {

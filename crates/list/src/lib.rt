@@ -122,7 +122,7 @@ pub fn write_records(labels: &[u8], r: Axes, records: &mut [u32])
 
 // Lists the cells 7 and 8 of a map, or refuses and writes nothing.
 pub fn list_cells(labels: &[u8], r: Axes, records: &mut [u32]) -> Listing
-    ensures result_value { outcome result ≡ cells_answer labels.now r records.old }
+    ensures answer { outcome result ≡ cells_answer labels.now r records.old }
     ensures records_after { records.new ≡ cells_buffer labels.now r records.old }
 {
     match grid::map_fault(labels, r, order::known_labels()) {

@@ -107,7 +107,7 @@ pub fn list_pairs(
     records: &mut [u32],
     list: &mut [u32],
 ) -> Listing
-    ensures result_value { outcome result ≡ pairs_answer points.now triangles.now r placement labels.now records.old list.old }
+    ensures answer { outcome result ≡ pairs_answer points.now triangles.now r placement labels.now records.old list.old }
     ensures records_after { records.new ≡ records_buffer points.now triangles.now r placement labels.now records.old list.old }
     ensures list_after { list.new ≡ triangles_buffer points.now triangles.now r placement labels.now records.old list.old }
 {

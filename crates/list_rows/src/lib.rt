@@ -65,7 +65,8 @@ pub fn enter_row(
         }
         let p = x;
         x += 1;
-        if e.surface == 1 {
+        let surface = e.surface == 1;
+        if surface {
             give(records, list, p, e, t, placing);
         }
     }

@@ -129,7 +129,7 @@ pub fn mark(
     placement: Placement,
     labels: &mut [u8],
 ) -> Marking
-    ensures result_value { outcome result ≡ mark_answer points.now triangles.now r placement labels.old }
+    ensures answer { outcome result ≡ mark_answer points.now triangles.now r placement labels.old }
     ensures labels_after { labels.new ≡ mark_labels points.now triangles.now r placement labels.old }
 {
     match marking_checks::mesh_fault(points, triangles, r, placement, labels.len()) {

@@ -37,7 +37,7 @@ fn past_of(axis: usize, a: i64, b: i64, c: i64) -> usize
 
 // The candidates along an axis of three vertices that fall on its cells.
 fn ends_of(axis: usize, x: i64, y: i64, z: i64) -> Stretch
-    requires x_value { (on_axis axis x ≡ true) × (on_axis axis y ≡ true) × (on_axis axis z ≡ true) }
+    requires all_on_axis { (on_axis axis x ≡ true) × (on_axis axis y ≡ true) × (on_axis axis z ≡ true) }
     requires axis { Axis axis }
     ensures { StretchOf axis (cell_of x) (cell_of y) (cell_of z) result }
 {

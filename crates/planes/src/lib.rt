@@ -39,7 +39,7 @@ pub fn planes_about(
     step: usize,
     ds: &mut [f32],
 ) -> Planing
-    ensures result_value { outcome_of_planes result ≡ planes_answer placement axis low high best step ds.old }
+    ensures answer { outcome_of_planes result ≡ planes_answer placement axis low high best step ds.old }
     ensures ds_after { ds.new ≡ planes_buffer placement axis low high best step ds.old }
 {
     match planes_range::planes_fault(placement, axis, low, high, best, step) {
@@ -188,7 +188,7 @@ pub fn split_points(
     above: &mut [f32],
     below: &mut [f32],
 ) -> Splitting
-    ensures result_value { outcome_of_split result ≡ split_answer ps.now axis d above.old below.old }
+    ensures answer { outcome_of_split result ≡ split_answer ps.now axis d above.old below.old }
     ensures above_after { above.new ≡ split_buffer First ps.now axis d above.old above.old below.old }
     ensures below_after { below.new ≡ split_buffer Second ps.now axis d below.old above.old below.old }
 {

@@ -52,7 +52,7 @@ fn put_text(out: &mut [u8], s: Summing) -> usize
 
 // Copies a text to the front of an output, or refuses with 14.
 fn copy_text(text: &[u8], output: &mut [u8]) -> Writing
-    ensures result_value { outcome result ≡ copy_answer text.now output.old }
+    ensures answer { outcome result ≡ copy_answer text.now output.old }
     ensures output_after { output.new ≡ copy_buffer text.now output.old }
 {
     match order::room_fault(output.len(), text.len() as u64) {
@@ -63,7 +63,7 @@ fn copy_text(text: &[u8], output: &mut [u8]) -> Writing
 
 // Writes what the program says of an input: the six lines, or the line of a refusal.
 fn write_text(s: Summing, output: &mut [u8]) -> Writing
-    ensures result_value { outcome result ≡ text_answer (summary.outcome s) output.old }
+    ensures answer { outcome result ≡ text_answer (summary.outcome s) output.old }
     ensures output_after { output.new ≡ text_buffer (summary.outcome s) output.old }
 {
     let mut text = [0u8; 256];

@@ -112,11 +112,12 @@ fn mark_and_tally(
 // The map over a grid, if it has at most so many cells as a program may have.
 fn map_on(ps: &[f32], ts: &[u32], r: Axes, placement: Placement, mode: Mode) -> Summing
     requires sound { Sound r }
-    requires r_value { mesh_fault ps.now ts.now r placement (cells r) ≡ Fine }
+    requires grid_fine { mesh_fault ps.now ts.now r placement (cells r) ≡ Fine }
     ensures { Mapped mode ps.now ts.now r placement (outcome result) }
 {
     let n = r.r0 * r.r1 * r.r2;
-    if MOST_CELLS < n {
+    let many = MOST_CELLS < n;
+    if many {
         return Summing::Refused(Refusal {
             number: grid::BAD_AXIS,
             place: 0,

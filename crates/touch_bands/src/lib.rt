@@ -54,7 +54,7 @@ fn band_along(d: [i64; 3], t: [[i64; 3]; 3]) -> Band
 
 fn edge_of(a: [i64; 3], b: [i64; 3]) -> [i64; 3]
     requires vertex_fits { VertexFits a }
-    requires vertex_fits_2 { VertexFits b }
+    requires other_vertex_fits { VertexFits b }
     ensures { result ≡ edge a b }
 {
     [b[0] - a[0], b[1] - a[1], b[2] - a[2]]
@@ -62,7 +62,7 @@ fn edge_of(a: [i64; 3], b: [i64; 3]) -> [i64; 3]
 
 fn cross_of(a: [i64; 3], b: [i64; 3]) -> [i64; 3]
     requires edge_fits { EdgeFits a }
-    requires edge_fits_2 { EdgeFits b }
+    requires other_edge_fits { EdgeFits b }
     ensures { result ≡ cross a b }
 {
     [

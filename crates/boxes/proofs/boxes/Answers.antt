@@ -70,10 +70,10 @@ pub rooms_fault-requires : goal.rooms_fault-requires
 rooms_fault-requires c = let a = c.args in subst (λ (n : ℕ). n ≤ 16777216) (sym c.count_label-n.ensures) (count_few a.labels.now a.r a.label (sheet c))
 
 pub write_boxes-requires : goal.write_boxes-requires
-write_boxes-requires c = let w = room c in record { sheet = sheet_2 c; labels_in_bounds = subst (λ (m : ℕ). 24 * m ≤ length c.args.points.now) c.count_label-n.ensures w.0; labels_in_bounds_2 = subst (λ (m : ℕ). 36 * m ≤ length c.args.triangles.now) c.count_label-n.ensures w.1 }
+write_boxes-requires c = let w = room c in record { sheet = sheet_2 c; points_room = subst (λ (m : ℕ). 24 * m ≤ length c.args.points.now) c.count_label-n.ensures w.0; triangles_room = subst (λ (m : ℕ). 36 * m ≤ length c.args.triangles.now) c.count_label-n.ensures w.1 }
 
 pub returns-in-Fault-rooms_fault : goal.returns-in-Fault-rooms_fault
-returns-in-Fault-rooms_fault c = let a = c.args in let w = refused_meets a.labels.now a.r a.placement a.label a.points.now a.triangles.now _ (sym c.in-Fault-rooms_fault.is ∙ all c) in record { result_value = w.0; points_after = w.1.0; triangles_after = w.1.1 }
+returns-in-Fault-rooms_fault c = let a = c.args in let w = refused_meets a.labels.now a.r a.placement a.label a.points.now a.triangles.now _ (sym c.in-Fault-rooms_fault.is ∙ all c) in record { answer = w.0; points_after = w.1.0; triangles_after = w.1.1 }
 
 pub returns-in-Fine-rooms_fault : goal.returns-in-Fine-rooms_fault
-returns-in-Fine-rooms_fault c = let a = c.args in let w = boxed_meets a.labels.now a.r a.placement a.label a.points.now a.triangles.now _ _ _ (sym (all_2 c) ∙ c.in-Fine-rooms_fault.is) (number_2 c) (room_2 c) (c.write_boxes.ensures.written, c.write_boxes.ensures.written_2) in record { result_value = w.0; points_after = w.1.0; triangles_after = w.1.1 }
+returns-in-Fine-rooms_fault c = let a = c.args in let w = boxed_meets a.labels.now a.r a.placement a.label a.points.now a.triangles.now _ _ _ (sym (all_2 c) ∙ c.in-Fine-rooms_fault.is) (number_2 c) (room_2 c) (c.write_boxes.ensures.written, c.write_boxes.ensures.triangles_written) in record { answer = w.0; points_after = w.1.0; triangles_after = w.1.1 }

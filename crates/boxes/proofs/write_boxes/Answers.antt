@@ -10,6 +10,7 @@ use Rattle.grid.specs.Grid.{InGrid, at}
 use Rattle.order.proofs.Orders.{stands_in}
 use Rattle.boxes.proofs.Writes.{asked, writing_none, writing_no, writing_yes, writing_room, writing_done, count_few}
 use Rattle.boxes.proofs.write_boxes.Goals as goal
+use Rattle.boxes.proofs.write_boxes.Goals.{Then-labels-number, After-number}
 
 -- what is read is the cell's label
 label_is : (c : goal.Then-labels-number) → get_or c.args.labels.now c.number.result 0 ≡ at c.args.r c.args.labels.now c.loop-next.next
@@ -76,23 +77,23 @@ pub overflow_add-n : goal.overflow_add-n
 overflow_add-n c = omega (arith, few c)
 
 pub overflow_mul-b : goal.overflow_mul-b
-overflow_mul-b c = omega (arith, few_2 c)
+overflow_mul-b c = omega (arith, few (goal.at.overflow_mul-b c).Then-labels-number)
 
 pub put_corners-requires : goal.put_corners-requires
 put_corners-requires c = let g = here c in
-    let s = c.requires.sheet.sound in record { from_in_bounds = omega (arith, room_2 c, c.requires.labels_in_bounds, c.loop-next.invariant.points.size); i_bound = (omega (arith, g.i_in, s.axis0.most), omega (arith, g.j_in, s.axis1.most), omega (arith, g.k_in, s.axis2.most)) }
+    let s = c.requires.sheet.sound in record { from_in_bounds = omega (arith, room_2 c, c.requires.points_room, c.loop-next.invariant.points.size); i_bound = (omega (arith, g.i_in, s.axis0.most), omega (arith, g.j_in, s.axis1.most), omega (arith, g.k_in, s.axis2.most)) }
 
 pub overflow_mul-b-then-labels-number : goal.overflow_mul-b-then-labels-number
-overflow_mul-b-then-labels-number c = omega (arith, few_3 c)
+overflow_mul-b-then-labels-number c = omega (arith, few (goal.at.overflow_mul-b-then-labels-number c).Then-labels-number)
 
-pub overflow_mul-b-then-labels-number-2 : goal.overflow_mul-b-then-labels-number-2
-overflow_mul-b-then-labels-number-2 c = omega (arith, few_3 c)
+pub overflow_mul-base : goal.overflow_mul-base
+overflow_mul-base c = omega (arith, few (goal.at.overflow_mul-base c).Then-labels-number)
 
-pub overflow_cast-b : goal.overflow_cast-b
-overflow_cast-b c = omega (arith, few_3 c)
+pub overflow_cast-base : goal.overflow_cast-base
+overflow_cast-base c = omega (arith, few (goal.at.overflow_cast-base c).Then-labels-number)
 
 pub put_triangles-requires : goal.put_triangles-requires
-put_triangles-requires c = (omega (arith, room_3 c, c.requires.labels_in_bounds_2, c.loop-next.invariant.triangles.size), omega (arith, few_3 c))
+put_triangles-requires c = (omega (arith, room_3 c, c.requires.triangles_room, c.loop-next.invariant.triangles.size), omega (arith, few_3 c))
 
 pub loop-next-preserved-then-labels-number : goal.loop-next-preserved-then-labels-number
 loop-next-preserved-then-labels-number c =
@@ -105,4 +106,4 @@ loop-next-preserved c =
     writing_no _ _ _ _ _ _ c.requires.sheet _ _ _ _ c.loop-next.invariant c.loop-next-test.true _ c.following-next.ensures.0 c.following-next.ensures.1 other
 
 pub returns : goal.returns
-returns c = let w = writing_done _ _ _ _ _ _ c.requires.sheet _ _ _ _ c.loop-next.invariant c.loop-next-test.false in record { written = w.0; written_2 = w.1 }
+returns c = let w = writing_done _ _ _ _ _ _ c.requires.sheet _ _ _ _ c.loop-next.invariant c.loop-next-test.false in record { written = w.0; triangles_written = w.1 }

@@ -51,4 +51,4 @@ classify_parts-requires c = let w = ready c (fine c) in record { named_below = (
 pub returns-in-Fine : goal.returns-in-Fine
 returns-in-Fine c = let ok = fine_2 c in
     let rule = class_of c.args.entries.now c.args.ends.now in
-    let done = classes_then c.args.count (λ t. no_class) rule (lent_2 c) _ _ c.clear.ensures c.classify_parts.ensures in record { result_value = fine_answer (checks_2 c) (answers tt) ok; classes_after = classes_over rule c.args.count (lent_2 c) _ (ready_2 c ok).1 done ∙ fine_lent (checks_2 c) (lent_2 c) (classed c) ok }
+    let done = classes_then c.args.count (λ t. no_class) rule (lent_2 c) _ _ c.clear.ensures c.classify_parts.ensures in record { answer = fine_answer (checks_2 c) (answers tt) ok; classes_after = classes_over rule c.args.count (lent_2 c) _ (ready_2 c ok).1 done ∙ fine_lent (checks_2 c) (lent_2 c) (classed c) ok }

@@ -9,7 +9,7 @@ pub look-a-requires : goal.look-a-requires
 look-a-requires c = record { sheet = c.requires.sheet; in_grid = (onto_in _ _ _ _ _ c.loop-r.invariant, c.loop-r.invariant.number) }
 
 pub neighbour-here-requires : goal.neighbour-here-requires
-neighbour-here-requires c = record { in_grid = onto_in _ _ _ _ _ c.loop-r.invariant; c_nonzero = onto_room _ _ _ _ _ c.loop-r.invariant _ _ c.look-a.ensures c.if-a-ne-OUTSIDE.false }
+neighbour-here-requires c = record { in_grid = onto_in _ _ _ _ _ c.loop-r.invariant; has_room = onto_room _ _ _ _ _ c.loop-r.invariant _ _ c.look-a.ensures c.if-a-ne-OUTSIDE.false }
 
 pub straight-requires : goal.straight-requires
 straight-requires c = let o = onto_more _ _ _ _ _ c.loop-r.invariant _ _ c.look-a.ensures c.if-a-ne-OUTSIDE.false _ c.neighbour-here.ensures in record { sheet = c.requires.sheet; in_grid = (onto_in _ _ _ _ _ o, o.number) }

@@ -12,7 +12,7 @@ pub returns-then-a-ne-OUTSIDE : goal.returns-then-a-ne-OUTSIDE
 returns-then-a-ne-OUTSIDE c = onto_exit _ _ _ _ _ c.loop-r.invariant _ _ c.look-a.ensures
 
 pub neighbour-here-requires : goal.neighbour-here-requires
-neighbour-here-requires c = record { in_grid = onto_in _ _ _ _ _ c.loop-r.invariant; c_nonzero = onto_room _ _ _ _ _ c.loop-r.invariant _ _ c.look-a.ensures c.if-a-ne-OUTSIDE.false }
+neighbour-here-requires c = record { in_grid = onto_in _ _ _ _ _ c.loop-r.invariant; has_room = onto_room _ _ _ _ _ c.loop-r.invariant _ _ c.look-a.ensures c.if-a-ne-OUTSIDE.false }
 
 pub loop-r-preserved : goal.loop-r-preserved
 loop-r-preserved c = onto_more _ _ _ _ _ c.loop-r.invariant _ _ c.look-a.ensures c.if-a-ne-OUTSIDE.false _ c.neighbour-here.ensures

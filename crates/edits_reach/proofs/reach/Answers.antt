@@ -35,12 +35,12 @@ standing_6 : (c : goal.After-slice_known-in-loop-next-1) →
 standing_6 c = c.loop-next.invariant c.args.l.now refl c.number-n.ensures c.requires
 
 -- where the trip stands from the labels at entry
-standing_7 : (c : goal.Then-v-eq-START) →
+standing_7 : (c : goal.Then-back_at_start) →
     let a = c.args in Going a.r a.pass a.done a.stop a.l.now a.s c.loop-next.l c.loop-next.c c.loop-next.n c.loop-next.met c.loop-next.next c.loop-next.count
 standing_7 c = c.loop-next.invariant c.args.l.now refl c.number-n.ensures c.requires
 
 -- where the trip stands from the labels at entry
-standing_8 : (c : goal.Else-v-eq-START) →
+standing_8 : (c : goal.Else-back_at_start) →
     let a = c.args in Going a.r a.pass a.done a.stop a.l.now a.s c.loop-next.l c.loop-next.c c.loop-next.n c.loop-next.met c.loop-next.next c.loop-next.count
 standing_8 c = c.loop-next.invariant c.args.l.now refl c.number-n.ensures c.requires
 
@@ -71,7 +71,7 @@ pub look-a-requires : goal.look-a-requires
 look-a-requires c = record { sheet = sheet _ _ _ _ _ _ c.requires _ _ _ _ _ _ (standing c); in_grid = (in_c _ _ _ _ _ _ c.requires _ _ _ _ _ _ (standing c), (standing c).number) }
 
 pub neighbour-c-requires : goal.neighbour-c-requires
-neighbour-c-requires c = record { in_grid = in_c _ _ _ _ _ _ c.requires _ _ _ _ _ _ (standing_2 c); c_nonzero = some _ _ _ _ _ _ c.requires _ _ _ _ _ _ (standing_2 c) c.if-next-lt-WAYS.true _ c.look-a.ensures c.if-a-pass.true }
+neighbour-c-requires c = record { in_grid = in_c _ _ _ _ _ _ c.requires _ _ _ _ _ _ (standing_2 c); has_room = some _ _ _ _ _ _ c.requires _ _ _ _ _ _ (standing_2 c) c.if-next-lt-WAYS.true _ c.look-a.ensures c.if-a-pass.true }
 
 pub bounds-l-n-then-a-pass : goal.bounds-l-n-then-a-pass
 bounds-l-n-then-a-pass c = place_e _ _ _ _ _ _ c.requires _ _ _ _ _ _ (standing_3 c) c.if-next-lt-WAYS.true _ c.look-a.ensures c.if-a-pass.true
@@ -97,26 +97,26 @@ bounds-l-n-in-loop-next-2 c = place _ _ _ _ _ _ c.requires _ _ _ _ _ _ (standing
 pub overflow_add-count : goal.overflow_add-count
 overflow_add-count c = omega (arith, few_set _ _ _ _ _ _ c.requires _ _ _ _ _ _ (standing_6 c))
 
-pub returns-then-v-eq-START : goal.returns-then-v-eq-START
-returns-then-v-eq-START c = walked _ _ _ _ _ _ c.requires _ _ _ _ _ _ (standing_7 c) c.if-next-lt-WAYS.false c.if-v-eq-START.true
+pub returns-then-back_at_start : goal.returns-then-back_at_start
+returns-then-back_at_start c = walked _ _ _ _ _ _ c.requires _ _ _ _ _ _ (standing_7 c) c.if-next-lt-WAYS.false c.if-back_at_start.true
 
 pub overflow_sub-v : goal.overflow_sub-v
-overflow_sub-v c = label_low _ _ _ _ _ _ c.requires _ _ _ _ _ _ (standing_8 c) c.if-next-lt-WAYS.false c.if-v-eq-START.false
+overflow_sub-v c = label_low _ _ _ _ _ _ c.requires _ _ _ _ _ _ (standing_8 c) c.if-next-lt-WAYS.false c.if-back_at_start.false
 
 pub opposite-back-requires : goal.opposite-back-requires
-opposite-back-requires c = way_low _ _ _ _ _ _ c.requires _ _ _ _ _ _ (standing_8 c) c.if-next-lt-WAYS.false c.if-v-eq-START.false
+opposite-back-requires c = way_low _ _ _ _ _ _ c.requires _ _ _ _ _ _ (standing_8 c) c.if-next-lt-WAYS.false c.if-back_at_start.false
 
 pub number_ahead-n-requires : goal.number_ahead-n-requires
-number_ahead-n-requires c = record { sound = (c.requires.sheet.sound, in_c _ _ _ _ _ _ c.requires _ _ _ _ _ _ (standing_9 c), (standing_9 c).number); c_nonzero = back_room _ _ _ _ _ _ c.requires _ _ _ _ _ _ (standing_9 c) c.if-next-lt-WAYS.false c.if-v-eq-START.false c.opposite-back.result c.opposite-back.ensures.1 }
+number_ahead-n-requires c = record { sound = (c.requires.sheet.sound, in_c _ _ _ _ _ _ c.requires _ _ _ _ _ _ (standing_9 c), (standing_9 c).number); has_room = back_room _ _ _ _ _ _ c.requires _ _ _ _ _ _ (standing_9 c) c.if-next-lt-WAYS.false c.if-back_at_start.false c.opposite-back.result c.opposite-back.ensures.1 }
 
 pub neighbour-c-requires-in-loop-next : goal.neighbour-c-requires-in-loop-next
-neighbour-c-requires-in-loop-next c = record { in_grid = in_c _ _ _ _ _ _ c.requires _ _ _ _ _ _ (standing_10 c); c_nonzero = back_room _ _ _ _ _ _ c.requires _ _ _ _ _ _ (standing_10 c) c.if-next-lt-WAYS.false c.if-v-eq-START.false c.opposite-back.result c.opposite-back.ensures.1 }
+neighbour-c-requires-in-loop-next c = record { in_grid = in_c _ _ _ _ _ _ c.requires _ _ _ _ _ _ (standing_10 c); has_room = back_room _ _ _ _ _ _ c.requires _ _ _ _ _ _ (standing_10 c) c.if-next-lt-WAYS.false c.if-back_at_start.false c.opposite-back.result c.opposite-back.ensures.1 }
 
 pub overflow_sub-v-in-loop-next : goal.overflow_sub-v-in-loop-next
-overflow_sub-v-in-loop-next c = omega (arith, label_low _ _ _ _ _ _ c.requires _ _ _ _ _ _ (standing_11 c) c.if-next-lt-WAYS.false c.if-v-eq-START.false)
+overflow_sub-v-in-loop-next c = omega (arith, label_low _ _ _ _ _ _ c.requires _ _ _ _ _ _ (standing_11 c) c.if-next-lt-WAYS.false c.if-back_at_start.false)
 
 pub loop-next-smaller : goal.loop-next-smaller
 loop-next-smaller c = omega (arith, popped_less _ _ _ _ _ _ c.requires _ _ _ _ _ _ (standing_12 c) c.if-next-lt-WAYS.false)
 
 pub loop-next-preserved : goal.loop-next-preserved
-loop-next-preserved c = λ m e q ok. popped _ _ _ _ _ _ ok _ _ _ _ _ _ (c.loop-next.invariant m e q ok) c.if-next-lt-WAYS.false c.if-v-eq-START.false c.opposite-back.result c.opposite-back.ensures.1 _ _ _ c.neighbour-c-in-loop-next.ensures c.number_ahead-n.ensures c.onward-next-in-loop-next.ensures
+loop-next-preserved c = λ m e q ok. popped _ _ _ _ _ _ ok _ _ _ _ _ _ (c.loop-next.invariant m e q ok) c.if-next-lt-WAYS.false c.if-back_at_start.false c.opposite-back.result c.opposite-back.ensures.1 _ _ _ c.neighbour-c-in-loop-next.ensures c.number_ahead-n.ensures c.onward-next-in-loop-next.ensures

@@ -26,4 +26,4 @@ pub returns-in-Fine : goal.returns-in-Fine
 returns-in-Fine c = let a = c.args in
     let fine = sym (found _ _ a.r a.labels.now c.taken_marks.ensures c.map_fault.ensures) ∙ c.in-Fine.is in
     let e = map_fine marks a.r a.labels.now fine in
-    let means = fills_mean a.mode a.r a.labels.now c.fill_by.new.labels c.fill_by.result e.0.size (only_marks a.labels.now e.1) c.fill_by.ensures in record { ends = subst (λ (x : Checked). Ends x a.labels.now (Fills a.mode a.r a.labels.now) (answers c.fill_by.result) c.fill_by.new.labels) (sym fine) c.fill_by.ensures; ends_2 = subst (λ (x : Checked). Ends x a.labels.now (Means a.mode a.r a.labels.now) (answers c.fill_by.result) c.fill_by.new.labels) (sym fine) means }
+    let means = fills_mean a.mode a.r a.labels.now c.fill_by.new.labels c.fill_by.result e.0.size (only_marks a.labels.now e.1) c.fill_by.ensures in record { ends = subst (λ (x : Checked). Ends x a.labels.now (Fills a.mode a.r a.labels.now) (answers c.fill_by.result) c.fill_by.new.labels) (sym fine) c.fill_by.ensures; means = subst (λ (x : Checked). Ends x a.labels.now (Means a.mode a.r a.labels.now) (answers c.fill_by.result) c.fill_by.new.labels) (sym fine) means }

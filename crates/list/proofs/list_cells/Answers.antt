@@ -37,4 +37,4 @@ returns-in-Fine-room_fault c = let a = c.args in let l = a.labels.now in let r =
     let n = c.count_cells-cells.ensures.0 in
     let g = sym (second _ _ l r _ n c.room_fault.ensures) ∙ c.in-Fine-room_fault.is in
     let e = sym g ∙ then_next (map_fault known_labels r l) (room_fault (length o) (length (listed r l) * width)) (fine c) in
-    let room = room_fine (length o) (length (listed r l) * width) g in record { result_value = ap (λ (x : ℕ). answers (record { cells = x; pairs = 0 })) n ∙ ap (λ (x : Checked). unless x (answers (record { cells = length (listed r l); pairs = 0 }))) e; records_after = written_over 0 (plain_records r l) o _ (omega (arith, rows_length r l (λ c. []) 0 (listed r l))) c.write_records.ensures ∙ ap (λ (x : Checked). lent_after x o (over (plain_records r l) o)) e }
+    let room = room_fine (length o) (length (listed r l) * width) g in record { answer = ap (λ (x : ℕ). answers (record { cells = x; pairs = 0 })) n ∙ ap (λ (x : Checked). unless x (answers (record { cells = length (listed r l); pairs = 0 }))) e; records_after = written_over 0 (plain_records r l) o _ (omega (arith, rows_length r l (λ c. []) 0 (listed r l))) c.write_records.ensures ∙ ap (λ (x : Checked). lent_after x o (over (plain_records r l) o)) e }

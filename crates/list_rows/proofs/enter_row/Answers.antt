@@ -10,9 +10,9 @@ use Rattle.list_rows.proofs.enter_row.Goals as goal
 pub returns-then-over : goal.returns-then-over
 returns-then-over c = let v = c.loop-x.invariant in rowing_stop _ _ _ _ _ v.0 _ _ _ _ _ v.1 c.loop-x-test.true _ c.read-e.ensures (omega (arith, c.if-over.true, c.key_of.ensures))
 
-pub loop-x-preserved-then-e-eq1 : goal.loop-x-preserved-then-e-eq1
-loop-x-preserved-then-e-eq1 c =
-    let v = c.loop-x.invariant in let l = c.loop-x-test.true in let z = eq-eqb _ 1 c.if-e-eq1.true in
+pub loop-x-preserved-then-surface : goal.loop-x-preserved-then-surface
+loop-x-preserved-then-surface c =
+    let v = c.loop-x.invariant in let l = c.loop-x-test.true in let z = eq-eqb _ 1 c.if-surface.true in
     let u : key c.read-e.result.cell < c.args.past = omega (arith, c.if-over.false, c.key_of.ensures) in (
       v.0,
       rowing_yes _ _ _ _ _ v.0 _ _ _ _ _ v.1 l _ c.read-e.ensures u z _ c.requires.room _ _ c.give.ensures.put_record (λ y. rowing_place _ _ _ _ _ v.0 _ _ _ _ _ v.1 l _ c.read-e.ensures u z _ c.requires.room y refl) c.give.ensures.list_after,

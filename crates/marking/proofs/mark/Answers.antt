@@ -32,4 +32,4 @@ returns-in-Fine c = let a = c.args in
     let l = a.labels.now in
     let ok = fine_2 c in
     let w = ready a.points.now a.triangles.now a.r a.placement (length l) ok in
-    let done = subst (λ (z : List ℕ). Painted a.r (is_surface a.points.now a.triangles.now a.r a.placement) z c.mark_triangles.new.labels) c.clear.ensures c.mark_triangles.ensures in record { result_value = ap (λ (x : Checked). unless x (answers tt)) (sym ok); labels_after = painted_marked a.points.now a.triangles.now a.r a.placement (length l) _ w.2 done ∙ ap (λ (x : Checked). lent_after x l (marked_labels a.points.now a.triangles.now a.r a.placement)) (sym ok) }
+    let done = subst (λ (z : List ℕ). Painted a.r (is_surface a.points.now a.triangles.now a.r a.placement) z c.mark_triangles.new.labels) c.clear.ensures c.mark_triangles.ensures in record { answer = ap (λ (x : Checked). unless x (answers tt)) (sym ok); labels_after = painted_marked a.points.now a.triangles.now a.r a.placement (length l) _ w.2 done ∙ ap (λ (x : Checked). lent_after x l (marked_labels a.points.now a.triangles.now a.r a.placement)) (sym ok) }

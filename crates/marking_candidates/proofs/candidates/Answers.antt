@@ -4,10 +4,10 @@ use Rattle.marking_mesh.proofs.Laws.{on_i, on_j, on_k, on_vertex, handed_on, han
 use Rattle.marking_candidates.proofs.candidates.Goals as goal
 
 pub ends_of-j-requires : goal.ends_of-j-requires
-ends_of-j-requires c = let a = c.args in record { x_value = handed_on a.r.r1 c.requires.sound.axis1 a.t 1 (λ v k. on_j a.r (vertex a.t v) (on_vertex a.r a.t c.requires.on_cells v k)); axis = c.requires.sound.axis1 }
+ends_of-j-requires c = let a = c.args in record { all_on_axis = handed_on a.r.r1 c.requires.sound.axis1 a.t 1 (λ v k. on_j a.r (vertex a.t v) (on_vertex a.r a.t c.requires.on_cells v k)); axis = c.requires.sound.axis1 }
 
 pub ends_of-k-requires : goal.ends_of-k-requires
-ends_of-k-requires c = let a = c.args in record { x_value = handed_on a.r.r2 c.requires.sound.axis2 a.t 2 (λ v k. on_k a.r (vertex a.t v) (on_vertex a.r a.t c.requires.on_cells v k)); axis = c.requires.sound.axis2 }
+ends_of-k-requires c = let a = c.args in record { all_on_axis = handed_on a.r.r2 c.requires.sound.axis2 a.t 2 (λ v k. on_k a.r (vertex a.t v) (on_vertex a.r a.t c.requires.on_cells v k)); axis = c.requires.sound.axis2 }
 
 pub returns : goal.returns
 returns c =

@@ -16,7 +16,7 @@ held : (c : goal.After-cell_of-c) → Held (to_z w64 (of_z w64 c.cell_of-a.resul
 held c =
     let e = read c in
     let a = c.args in
-    (subst Held (sym e.0) (on_axis_held a.axis a.x c.requires.axis c.requires.x_value.0), subst Held (sym e.1) (on_axis_held a.axis a.y c.requires.axis c.requires.x_value.1), subst Held (sym e.2) (on_axis_held a.axis a.z c.requires.axis c.requires.x_value.2))
+    (subst Held (sym e.0) (on_axis_held a.axis a.x c.requires.axis c.requires.all_on_axis.0), subst Held (sym e.1) (on_axis_held a.axis a.y c.requires.axis c.requires.all_on_axis.1), subst Held (sym e.2) (on_axis_held a.axis a.z c.requires.axis c.requires.all_on_axis.2))
 
 -- the cells of the three coordinates as the machine has them
 read_2 : (c : goal.After-first_of-from) → (to_z w64 (of_z w64 c.cell_of-a.result) ≡ cell_of c.args.x) × (to_z w64 (of_z w64 c.cell_of-b.result) ≡ cell_of c.args.y) × (to_z w64 (of_z w64 c.cell_of-c.result) ≡ cell_of c.args.z)
@@ -26,7 +26,7 @@ held_2 : (c : goal.After-first_of-from) → Held (to_z w64 (of_z w64 c.cell_of-a
 held_2 c =
     let e = read_2 c in
     let a = c.args in
-    (subst Held (sym e.0) (on_axis_held a.axis a.x c.requires.axis c.requires.x_value.0), subst Held (sym e.1) (on_axis_held a.axis a.y c.requires.axis c.requires.x_value.1), subst Held (sym e.2) (on_axis_held a.axis a.z c.requires.axis c.requires.x_value.2))
+    (subst Held (sym e.0) (on_axis_held a.axis a.x c.requires.axis c.requires.all_on_axis.0), subst Held (sym e.1) (on_axis_held a.axis a.y c.requires.axis c.requires.all_on_axis.1), subst Held (sym e.2) (on_axis_held a.axis a.z c.requires.axis c.requires.all_on_axis.2))
 
 -- the cells of the three coordinates as the machine has them
 read_3 : (c : goal.After-past_of-to) → (to_z w64 (of_z w64 c.cell_of-a.result) ≡ cell_of c.args.x) × (to_z w64 (of_z w64 c.cell_of-b.result) ≡ cell_of c.args.y) × (to_z w64 (of_z w64 c.cell_of-c.result) ≡ cell_of c.args.z)

@@ -68,4 +68,4 @@ returns-in-Fine-room_fault c = let o = lent c in
     let ok = sym (then_next (early c) (late c) (fine c)) ∙ room in
     let is-count = counted c in
     let w = subst (λ (l : List Float). Written nan 0 l o m) (λ t. planes_of (c.origin_along.ensures t) c.args.placement.scale (c.first_plane-first.ensures t) (is-count t)) c.write_planes.ensures in
-    let size = planes_length (origin_along c.args.placement c.args.axis) c.args.placement.scale (first c) (count c) in record { result_value = (λ t. answers (record { first = c.first_plane-first.ensures t; count = is-count t })) ∙ fine_answer (checks c) (answer c) ok; ds_after = written_over nan (planes c) o m (omega (arith, size, fits c room)) w ∙ fine_lent (checks c) o (over (planes c) o) ok }
+    let size = planes_length (origin_along c.args.placement c.args.axis) c.args.placement.scale (first c) (count c) in record { answer = (λ t. answers (record { first = c.first_plane-first.ensures t; count = is-count t })) ∙ fine_answer (checks c) (answer c) ok; ds_after = written_over nan (planes c) o m (omega (arith, size, fits c room)) w ∙ fine_lent (checks c) o (over (planes c) o) ok }

@@ -187,4 +187,4 @@ write_side-requires-in-Fine-rooms_fault c = record { axis_bound = ready_5 c (fin
 
 pub returns-in-Fine-rooms_fault : goal.returns-in-Fine-rooms_fault
 returns-in-Fine-rooms_fault c = let room = no_14_3 c in
-    let ok = sym (then_next (early_6 c) (late_3 c) (fine_6 c)) ∙ room in record { result_value = (λ t. answers (record { first = c.count_side-first.ensures t; second = c.count_side-second.ensures t })) ∙ fine_answer (checks c) (answer c) ok; above_after = written c First (up_3 c) _ ok (fits_3 c room).0 c.write_side.ensures; below_after = written c Second (down_3 c) _ ok (fits_3 c room).1 c.write_side-in-Fine-rooms_fault.ensures }
+    let ok = sym (then_next (early_6 c) (late_3 c) (fine_6 c)) ∙ room in record { answer = (λ t. answers (record { first = c.count_side-first.ensures t; second = c.count_side-second.ensures t })) ∙ fine_answer (checks c) (answer c) ok; above_after = written c First (up_3 c) _ ok (fits_3 c room).0 c.write_side.ensures; below_after = written c Second (down_3 c) _ ok (fits_3 c room).1 c.write_side-in-Fine-rooms_fault.ensures }

@@ -19,4 +19,4 @@ slice_bounds-copy_text-end c =
 
 pub returns : goal.returns
 returns c = let a = c.args in
-    let e = front_text (text (summary.outcome a.s)) _ _ _ (text_most (summary.outcome a.s)) c.put_text-n.ensures in record { result_value = c.copy_text.ensures.result_value ∙ ap (λ (xs : List ℕ). copy_answer xs a.output.now) e; output_after = c.copy_text.ensures.output_after ∙ ap (λ (xs : List ℕ). copy_buffer xs a.output.now) e }
+    let e = front_text (text (summary.outcome a.s)) _ _ _ (text_most (summary.outcome a.s)) c.put_text-n.ensures in record { answer = c.copy_text.ensures.answer ∙ ap (λ (xs : List ℕ). copy_answer xs a.output.now) e; output_after = c.copy_text.ensures.output_after ∙ ap (λ (xs : List ℕ). copy_buffer xs a.output.now) e }

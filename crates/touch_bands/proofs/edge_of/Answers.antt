@@ -5,4 +5,4 @@ use Rattle.touch_bands.proofs.edge_of.Goals as goal
 
 pub returns : goal.returns
 unfolding edge
-returns c = cons3 (minus tt (arg tt (c.requires.vertex_fits_2.at 0)) (arg tt (c.requires.vertex_fits.at 0))).is (minus tt (arg tt (c.requires.vertex_fits_2.at 1)) (arg tt (c.requires.vertex_fits.at 1))).is (minus tt (arg tt (c.requires.vertex_fits_2.at 2)) (arg tt (c.requires.vertex_fits.at 2))).is
+returns c = cons3 (minus tt (arg tt (c.requires.other_vertex_fits.at 0)) (arg tt (c.requires.vertex_fits.at 0))).is (minus tt (arg tt (c.requires.other_vertex_fits.at 1)) (arg tt (c.requires.vertex_fits.at 1))).is (minus tt (arg tt (c.requires.other_vertex_fits.at 2)) (arg tt (c.requires.vertex_fits.at 2))).is

@@ -11,8 +11,8 @@ edge_fits : (c : goal.After-z-1) → EdgeFits c.edge_of-e.result
 edge_fits c = each_eq c.edge_of-e.ensures (edge_in c.requires.vertex_fits.0 c.requires.vertex_fits.1)
 
 -- the edge has its range
-edge_fits_2 : (c : goal.After-band_along-with_x) → EdgeFits c.edge_of-e.result
-edge_fits_2 c = each_eq c.edge_of-e.ensures (edge_in c.requires.vertex_fits.0 c.requires.vertex_fits.1)
+other_edge_fits : (c : goal.After-band_along-with_x) → EdgeFits c.edge_of-e.result
+other_edge_fits c = each_eq c.edge_of-e.ensures (edge_in c.requires.vertex_fits.0 c.requires.vertex_fits.1)
 
 -- the edge has its range
 edge_fits_3 : (c : goal.After-band_along-with_y) → EdgeFits c.edge_of-e.result
@@ -29,10 +29,10 @@ pub band_along-with_x-requires : goal.band_along-with_x-requires
 band_along-with_x-requires c = let h = edge_fits c in record { direction_fits = in3 (in_lit _ (pos 0) tt) (in_up _ tt (v_in (arg tt (h.at 2)))) (in_up _ tt (v_in (negate tt (arg tt (h.at 1))))); triangle_fits = c.requires.triangle_fits }
 
 pub overflow_sub-z : goal.overflow_sub-z
-overflow_sub-z c = fits tt (v_negate (arg tt ((edge_fits_2 c).at 2)))
+overflow_sub-z c = fits tt (v_negate (arg tt ((other_edge_fits c).at 2)))
 
 pub band_along-with_y-requires : goal.band_along-with_y-requires
-band_along-with_y-requires c = let h = edge_fits_2 c in record { direction_fits = in3 (in_up _ tt (v_in (negate tt (arg tt (h.at 2))))) (in_lit _ (pos 0) tt) (in_up _ tt (v_in (arg tt (h.at 0)))); triangle_fits = c.requires.triangle_fits }
+band_along-with_y-requires c = let h = other_edge_fits c in record { direction_fits = in3 (in_up _ tt (v_in (negate tt (arg tt (h.at 2))))) (in_lit _ (pos 0) tt) (in_up _ tt (v_in (arg tt (h.at 0)))); triangle_fits = c.requires.triangle_fits }
 
 pub overflow_sub-x : goal.overflow_sub-x
 overflow_sub-x c = fits tt (v_negate (arg tt ((edge_fits_3 c).at 0)))
