@@ -13,42 +13,29 @@ use Rattle.classes.specs.Classes.{no_class, class_of, classes_of, class_fault, N
 use Rattle.classes.proofs.Ending.{class_fine}
 use Rattle.classes.proofs.Naming.{classes_over, classes_then, classes_stay}
 use Rattle.classes.proofs.classify.Goals as goal
+use Rattle.classes.proofs.classify.Goals.{In-Fine, Start}
 
 -- what is lent, the checks of it, and the buffer with the classes
-abbrev lent : goal.After-classify_parts-arg-1 → List ℕ
+abbrev lent : Start → List ℕ
 lent c = c.args.classes.now
 
-abbrev checks : goal.After-classify_parts-arg-1 → Checked
+abbrev checks : Start → Checked
 checks c = class_fault c.args.entries.now c.args.ends.now c.args.count (length (lent c))
 
 -- the checks found nothing
-fine : (c : goal.After-classify_parts-arg-1) → checks c ≡ Fine
+fine : (c : In-Fine) → checks (goal.at.In-Fine c).Start ≡ Fine
 fine c = sym c.class_fault.ensures ∙ c.in-Fine.is
 
-ready : (c : goal.After-classify_parts-arg-1) → checks c ≡ Fine → NamedBelow c.args.entries.now c.args.count × (c.args.count ≤ length (lent c)) × Ended c.args.ends.now (length c.args.entries.now)
+ready : (c : Start) → checks c ≡ Fine → NamedBelow c.args.entries.now c.args.count × (c.args.count ≤ length (lent c)) × Ended c.args.ends.now (length c.args.entries.now)
 ready c h = class_fine c.args.entries.now c.args.ends.now c.args.count (length (lent c)) h
 
--- what is lent, the checks of it, and the buffer with the classes
-abbrev lent_2 : goal.After-slice_known-in-Fine-2-1 → List ℕ
-lent_2 c = c.args.classes.now
-
-abbrev checks_2 : goal.After-slice_known-in-Fine-2-1 → Checked
-checks_2 c = class_fault c.args.entries.now c.args.ends.now c.args.count (length (lent_2 c))
-
-abbrev classed : goal.After-slice_known-in-Fine-2-1 → List ℕ
-classed c = over (classes_of c.args.entries.now c.args.ends.now c.args.count) (lent_2 c)
-
--- the checks found nothing
-fine_2 : (c : goal.After-slice_known-in-Fine-2-1) → checks_2 c ≡ Fine
-fine_2 c = sym c.class_fault.ensures ∙ c.in-Fine.is
-
-ready_2 : (c : goal.After-slice_known-in-Fine-2-1) → checks_2 c ≡ Fine → NamedBelow c.args.entries.now c.args.count × (c.args.count ≤ length (lent_2 c)) × Ended c.args.ends.now (length c.args.entries.now)
-ready_2 c h = class_fine c.args.entries.now c.args.ends.now c.args.count (length (lent_2 c)) h
+abbrev classed : Start → List ℕ
+classed c = over (classes_of c.args.entries.now c.args.ends.now c.args.count) (lent c)
 
 pub classify_parts-requires : goal.classify_parts-requires
-classify_parts-requires c = let w = ready c (fine c) in record { named_below = (w.0, omega (arith, w.1, c.clear.ensures.size)); ended = w.2; classes = classes_stay _ _ _ _ c.clear.ensures }
+classify_parts-requires c = let w = ready (goal.at.classify_parts-requires c).Start (fine (goal.at.classify_parts-requires c).In-Fine) in record { named_below = (w.0, omega (arith, w.1, c.clear.ensures.size)); ended = w.2; classes = classes_stay _ _ _ _ c.clear.ensures }
 
 pub returns-in-Fine : goal.returns-in-Fine
-returns-in-Fine c = let ok = fine_2 c in
+returns-in-Fine c = let ok = fine (goal.at.returns-in-Fine c).In-Fine in
     let rule = class_of c.args.entries.now c.args.ends.now in
-    let done = classes_then c.args.count (λ t. no_class) rule (lent_2 c) _ _ c.clear.ensures c.classify_parts.ensures in record { answer = fine_answer (checks_2 c) (answers tt) ok; classes_after = classes_over rule c.args.count (lent_2 c) _ (ready_2 c ok).1 done ∙ fine_lent (checks_2 c) (lent_2 c) (classed c) ok }
+    let done = classes_then c.args.count (λ t. no_class) rule (lent (goal.at.returns-in-Fine c).Start) _ _ c.clear.ensures c.classify_parts.ensures in record { answer = fine_answer (checks (goal.at.returns-in-Fine c).Start) (answers tt) ok; classes_after = classes_over rule c.args.count (lent (goal.at.returns-in-Fine c).Start) _ (ready (goal.at.returns-in-Fine c).Start ok).1 done ∙ fine_lent (checks (goal.at.returns-in-Fine c).Start) (lent (goal.at.returns-in-Fine c).Start) (classed (goal.at.returns-in-Fine c).Start) ok }

@@ -11,30 +11,27 @@ use Rattle.grid.proofs.Cells.{num_lt}
 use Rattle.fill_walks.specs.Scan.{is_walker}
 use Rattle.fill_walks.proofs.Turns.{visit_none, turns_more, turns_all}
 use Rattle.fill_visits.proofs.visit_stretch.Goals as goal
+use Rattle.fill_visits.proofs.visit_stretch.Goals.{In-loop-k}
 
 -- the cell of this turn
-abbrev cell_of : goal.After-slice_known-in-loop-k-1-unread → Cell
+abbrev cell_of : In-loop-k → Cell
 cell_of c = record { i = c.args.first.i; j = c.args.first.j; k = c.loop-k.k }
 
-in_grid_lem : (c : goal.After-slice_known-in-loop-k-1-unread) → InGrid c.args.r (cell_of c)
+in_grid_lem : (c : In-loop-k) → InGrid c.args.r (cell_of c)
 in_grid_lem c = record { i_in = c.requires.i_lt_r0.0; j_in = c.requires.i_lt_r0.1; k_in = omega (arith, c.loop-k-test.true, c.requires.i_lt_r0.3) }
 
-within : (c : goal.After-slice_known-in-loop-k-1-unread) → c.loop-k.next < length c.loop-k.l
+within : (c : In-loop-k) → c.loop-k.next < length c.loop-k.l
 within c = omega (arith, num_lt c.args.r (cell_of c) (in_grid_lem c), c.loop-k.invariant.1, c.loop-k.invariant.0.sheet.size)
 
--- the cell of this turn
-abbrev cell_of_2 : goal.Then-is_idle → Cell
-cell_of_2 c = record { i = c.args.first.i; j = c.args.first.j; k = c.loop-k.k }
-
 pub bounds-l-n : goal.bounds-l-n
-bounds-l-n c = within c
+bounds-l-n c = within (goal.at.bounds-l-n c).In-loop-k
 
 pub loop-k-preserved-then-is_idle : goal.loop-k-preserved-then-is_idle
 loop-k-preserved-then-is_idle c =
     let a = c.args in
     let i = c.loop-k.invariant in
     let s = c.is_idle.ensures c.if-is_idle.true in (
-      turns_more _ _ _ _ _ _ _ _ _ _ _ _ i.0 c.loop-k-test.true refl (omega arith) (sym (visit_none a.p a.r (cell_of_2 c) c.loop-k.l c.loop-k.walked (subst (λ (q : ℕ). get_or c.loop-k.l q 0 ≡ a.p.todo → ⊥) i.1 s.0) (subst (λ (q : ℕ). is_walker a.p.walkers (get_or c.loop-k.l q 0) ≡ false) i.1 s.1))),
+      turns_more _ _ _ _ _ _ _ _ _ _ _ _ i.0 c.loop-k-test.true refl (omega arith) (sym (visit_none a.p a.r (cell_of (goal.at.loop-k-preserved-then-is_idle c).In-loop-k) c.loop-k.l c.loop-k.walked (subst (λ (q : ℕ). get_or c.loop-k.l q 0 ≡ a.p.todo → ⊥) i.1 s.0) (subst (λ (q : ℕ). is_walker a.p.walkers (get_or c.loop-k.l q 0) ≡ false) i.1 s.1))),
       omega (arith, i.1, add-mul c.loop-k.k 1 (a.r.r0 * a.r.r1), one-mul (a.r.r0 * a.r.r1)),
       i.2,
       i.3,

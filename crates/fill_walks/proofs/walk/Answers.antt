@@ -7,34 +7,14 @@ use Rattle.fill_walks.specs.Rays.{Along}
 use Rattle.fill_walks.proofs.Rays.{along_step, go_none, go_pass, go_mark, go_stop}
 use Rattle.fill_walks.proofs.Trails.{Stands, stands_on, trail_as, trail_more, trail_mark}
 use Rattle.fill_walks.proofs.walk.Goals as goal
+use Rattle.fill_walks.proofs.walk.Goals.{In-loop-left}
 
 -- the next number is below the length, and so is the rest of the ray
-next : (c : goal.In-loop-left) →
+next : (c : In-loop-left) →
     (c.args.sub ≤ c.loop-left.at + c.args.add)
     × (c.loop-left.at + c.args.add - c.args.sub < length c.args.l.now)
     × Along (length c.args.l.now) (c.loop-left.at + c.args.add - c.args.sub) c.args.add c.args.sub (c.loop-left.left - 1)
 next c = along_step _ _ _ _ _ c.loop-left-test.true c.loop-left.invariant.2
-
--- the next number is below the length, and so is the rest of the ray
-next_2 : (c : goal.After-slice_known-1-unread) →
-    (c.args.sub ≤ c.loop-left.at + c.args.add)
-    × (c.loop-left.at + c.args.add - c.args.sub < length c.args.l.now)
-    × Along (length c.args.l.now) (c.loop-left.at + c.args.add - c.args.sub) c.args.add c.args.sub (c.loop-left.left - 1)
-next_2 c = along_step _ _ _ _ _ c.loop-left-test.true c.loop-left.invariant.2
-
--- the next number is below the length, and so is the rest of the ray
-next_3 : (c : goal.Then-surface) →
-    (c.args.sub ≤ c.loop-left.at + c.args.add)
-    × (c.loop-left.at + c.args.add - c.args.sub < length c.args.l.now)
-    × Along (length c.args.l.now) (c.loop-left.at + c.args.add - c.args.sub) c.args.add c.args.sub (c.loop-left.left - 1)
-next_3 c = along_step _ _ _ _ _ c.loop-left-test.true c.loop-left.invariant.2
-
--- the next number is below the length, and so is the rest of the ray
-next_4 : (c : goal.Else-v-pass) →
-    (c.args.sub ≤ c.loop-left.at + c.args.add)
-    × (c.loop-left.at + c.args.add - c.args.sub < length c.args.l.now)
-    × Along (length c.args.l.now) (c.loop-left.at + c.args.add - c.args.sub) c.args.add c.args.sub (c.loop-left.left - 1)
-next_4 c = along_step _ _ _ _ _ c.loop-left-test.true c.loop-left.invariant.2
 
 -- one step more has been done
 one_more : (count left : ℕ) → left ≤ count → 0 < left → count - (left - 1) ≡ count - left + 1
@@ -47,20 +27,20 @@ pub overflow_sub-at : goal.overflow_sub-at
 overflow_sub-at c = (next c).0
 
 pub bounds-l-at : goal.bounds-l-at
-bounds-l-at c = omega (arith, (next_2 c).1, c.loop-left.invariant.1)
+bounds-l-at c = omega (arith, (next (goal.at.bounds-l-at c).In-loop-left).1, c.loop-left.invariant.1)
 
 pub returns-then-surface : goal.returns-then-surface
-returns-then-surface c = record { l_after = sym (go_mark _ _ _ _ _ _ c.loop-left-test.true c.if-v-pass.true c.if-surface.true) ∙ c.loop-left.invariant.3; upper_bound = (omega arith, trail_mark _ _ _ _ _ _ _ _ (omega (arith, (next_3 c).1, c.loop-left.invariant.1)) c.loop-left.invariant.6) }
+returns-then-surface c = record { l_after = sym (go_mark _ _ _ _ _ _ c.loop-left-test.true c.if-v-pass.true c.if-surface.true) ∙ c.loop-left.invariant.3; upper_bound = (omega arith, trail_mark _ _ _ _ _ _ _ _ (omega (arith, (next (goal.at.returns-then-surface c).In-loop-left).1, c.loop-left.invariant.1)) c.loop-left.invariant.6) }
 
 pub returns-then-v-pass : goal.returns-then-v-pass
 returns-then-v-pass c = record { l_after = sym (go_stop _ _ _ _ _ _ c.loop-left-test.true c.if-v-pass.true c.if-surface.false) ∙ c.loop-left.invariant.3; upper_bound = (omega arith, c.loop-left.invariant.6) }
 
 pub bounds-l-at-in-loop-left : goal.bounds-l-at-in-loop-left
-bounds-l-at-in-loop-left c = omega (arith, (next_4 c).1, c.loop-left.invariant.1)
+bounds-l-at-in-loop-left c = omega (arith, (next (goal.at.bounds-l-at-in-loop-left c).In-loop-left).1, c.loop-left.invariant.1)
 
 pub loop-left-preserved : goal.loop-left-preserved
 loop-left-preserved c =
-    let n = next_4 c in
+    let n = next (goal.at.loop-left-preserved c).In-loop-left in
     let i = c.loop-left.invariant in
     let a = c.args in
     let k = c.loop-left.left in

@@ -12,70 +12,48 @@ use Rattle.list_record.specs.Record.{width, numbers_of}
 use Rattle.list.specs.List.{is_listed, flag_of, RoomFrom}
 use Rattle.list.proofs.Rows.{Parts, parts_none, parts_room, parts_yes, parts_no, one_yes, row_none, row_next, row_part}
 use Rattle.list.proofs.write_row.Goals as goal
+use Rattle.list.proofs.write_row.Goals.{In-loop-k}
 
 -- the cell of a turn
-abbrev cell : goal.After-flag_of → Cell
+abbrev cell : In-loop-k → Cell
 cell c = record { i = c.args.i; j = c.args.j; k = c.loop-k.k }
 
-here : (c : goal.After-flag_of) → InGrid c.args.r (cell c)
+here : (c : In-loop-k) → InGrid c.args.r (cell c)
 here c = let p = c.requires.sheet in record { i_in = p.1; j_in = p.2; k_in = c.loop-k-test.true }
 
 -- its label is the one that is read
-label_is : (c : goal.After-flag_of) (n : ℕ) → n ≡ num c.args.r (cell c) → get_or c.args.labels.now n 0 ≡ at c.args.r c.args.labels.now (cell c)
+label_is : (c : In-loop-k) (n : ℕ) → n ≡ num c.args.r (cell c) → get_or c.args.labels.now n 0 ≡ at c.args.r c.args.labels.now (cell c)
 label_is c n e = ap (λ (k : ℕ). get_or c.args.labels.now k 0) e
 
 -- the room for one more
-room : (c : goal.After-flag_of) → is_listed (at c.args.r c.args.labels.now (cell c)) ≡ is_listed 8 → RoomFrom c.loop-k.q (cell c ∷ []) c.loop-k.records
+room : (c : In-loop-k) → is_listed (at c.args.r c.args.labels.now (cell c)) ≡ is_listed 8 → RoomFrom c.loop-k.q (cell c ∷ []) c.loop-k.records
 room c h =
     let a = c.args in let k = c.loop-k.k in
     subst (λ (cs : List Cell). RoomFrom c.loop-k.q cs c.loop-k.records) (one_yes a.r a.labels.now (cell c) h)
     (parts_room a.r a.labels.now a.records.now a.p _ _ (row a.i a.j 0 k) (cell c ∷ []) _ _ _ c.loop-k.invariant.0 (row_next a.i a.j k) (row_part a.i a.j k a.r.r2 c.loop-k-test.true) c.requires.room_from)
 
--- the cell of a turn
-abbrev cell_2 : goal.After-slice_known-then-is_listed-1 → Cell
-cell_2 c = record { i = c.args.i; j = c.args.j; k = c.loop-k.k }
-
--- its label is the one that is read
-label_is_2 : (c : goal.After-slice_known-then-is_listed-1) (n : ℕ) → n ≡ num c.args.r (cell_2 c) → get_or c.args.labels.now n 0 ≡ at c.args.r c.args.labels.now (cell_2 c)
-label_is_2 c n e = ap (λ (k : ℕ). get_or c.args.labels.now k 0) e
-
--- the room for one more
-room_2 : (c : goal.After-slice_known-then-is_listed-1) → is_listed (at c.args.r c.args.labels.now (cell_2 c)) ≡ is_listed 8 → RoomFrom c.loop-k.q (cell_2 c ∷ []) c.loop-k.records
-room_2 c h =
-    let a = c.args in let k = c.loop-k.k in
-    subst (λ (cs : List Cell). RoomFrom c.loop-k.q cs c.loop-k.records) (one_yes a.r a.labels.now (cell_2 c) h)
-    (parts_room a.r a.labels.now a.records.now a.p _ _ (row a.i a.j 0 k) (cell_2 c ∷ []) _ _ _ c.loop-k.invariant.0 (row_next a.i a.j k) (row_part a.i a.j k a.r.r2 c.loop-k-test.true) c.requires.room_from)
-
--- the cell of a turn
-abbrev cell_3 : goal.Else-is_listed → Cell
-cell_3 c = record { i = c.args.i; j = c.args.j; k = c.loop-k.k }
-
--- its label is the one that is read
-label_is_3 : (c : goal.Else-is_listed) (n : ℕ) → n ≡ num c.args.r (cell_3 c) → get_or c.args.labels.now n 0 ≡ at c.args.r c.args.labels.now (cell_3 c)
-label_is_3 c n e = ap (λ (k : ℕ). get_or c.args.labels.now k 0) e
-
 pub loop-k-init : goal.loop-k-init
 loop-k-init c = let a = c.args in (subst (Parts a.r a.labels.now a.records.now a.records.now a.p a.p) (sym (row_none a.i a.j)) (parts_none a.r a.labels.now a.records.now a.p), omega arith)
 
 pub write-requires : goal.write-requires
-write-requires c = let s = c.requires.sheet.0.sound in let h = here c in
-    let w = ap is_listed (sym (label_is c _ c.number.ensures)) ∙ sym c.is_listed.ensures ∙ c.if-is_listed.true in record { width_in_bounds = omega (arith, (room c w).room); i_bound = (omega (arith, h.i_in, s.axis0.most), omega (arith, h.j_in, s.axis1.most), omega (arith, h.k_in, s.axis2.most)) }
+write-requires c = let s = c.requires.sheet.0.sound in let h = here (goal.at.write-requires c).In-loop-k in
+    let w = ap is_listed (sym (label_is (goal.at.write-requires c).In-loop-k _ c.number.ensures)) ∙ sym c.is_listed.ensures ∙ c.if-is_listed.true in record { width_in_bounds = omega (arith, (room (goal.at.write-requires c).In-loop-k w).room); i_bound = (omega (arith, h.i_in, s.axis0.most), omega (arith, h.j_in, s.axis1.most), omega (arith, h.k_in, s.axis2.most)) }
 
 pub overflow_add-q : goal.overflow_add-q
 overflow_add-q c =
-    let w = ap is_listed (sym (label_is_2 c _ c.number.ensures)) ∙ sym c.is_listed.ensures ∙ c.if-is_listed.true in
-    omega (arith, (room_2 c w).few)
+    let w = ap is_listed (sym (label_is (goal.at.overflow_add-q c).In-loop-k _ c.number.ensures)) ∙ sym c.is_listed.ensures ∙ c.if-is_listed.true in
+    omega (arith, (room (goal.at.overflow_add-q c).In-loop-k w).few)
 
 pub loop-k-preserved-then-is_listed : goal.loop-k-preserved-then-is_listed
 loop-k-preserved-then-is_listed c =
-    let a = c.args in let e = label_is_2 c _ c.number.ensures in
+    let a = c.args in let e = label_is (goal.at.loop-k-preserved-then-is_listed c).In-loop-k _ c.number.ensures in
     let w = ap is_listed (sym e) ∙ sym c.is_listed.ensures ∙ c.if-is_listed.true in (
-      parts_yes a.r a.labels.now (cell_2 c) a.records.now _ a.p _ _ _ c.loop-k.invariant.0 (row_next a.i a.j c.loop-k.k) w _
-          (subst (λ (v : ℕ). Written 0 (c.loop-k.q * width) (numbers_of (record { cell = cell_2 c; surface = v; start = 0; end = 0 })) c.loop-k.records c.write.new.records) (c.flag_of.ensures ∙ ap flag_of e) c.write.ensures),
+      parts_yes a.r a.labels.now (cell (goal.at.loop-k-preserved-then-is_listed c).In-loop-k) a.records.now _ a.p _ _ _ c.loop-k.invariant.0 (row_next a.i a.j c.loop-k.k) w _
+          (subst (λ (v : ℕ). Written 0 (c.loop-k.q * width) (numbers_of (record { cell = cell (goal.at.loop-k-preserved-then-is_listed c).In-loop-k; surface = v; start = 0; end = 0 })) c.loop-k.records c.write.new.records) (c.flag_of.ensures ∙ ap flag_of e) c.write.ensures),
       omega (arith, c.loop-k-test.true),
     )
 
 pub loop-k-preserved : goal.loop-k-preserved
 loop-k-preserved c =
-    let a = c.args in let w = ap is_listed (sym (label_is_3 c _ c.number.ensures)) ∙ sym c.is_listed.ensures ∙ c.if-is_listed.false in
-    (parts_no a.r a.labels.now (cell_3 c) a.records.now _ a.p _ _ _ c.loop-k.invariant.0 (row_next a.i a.j c.loop-k.k) w, omega (arith, c.loop-k-test.true))
+    let a = c.args in let w = ap is_listed (sym (label_is (goal.at.loop-k-preserved c).In-loop-k _ c.number.ensures)) ∙ sym c.is_listed.ensures ∙ c.if-is_listed.false in
+    (parts_no a.r a.labels.now (cell (goal.at.loop-k-preserved c).In-loop-k) a.records.now _ a.p _ _ _ c.loop-k.invariant.0 (row_next a.i a.j c.loop-k.k) w, omega (arith, c.loop-k-test.true))

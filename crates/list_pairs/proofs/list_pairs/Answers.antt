@@ -10,37 +10,24 @@ use Rattle.grid.specs.Grid.{Sheet}
 use Rattle.marking.specs.Painted.{Ready}
 use native.Mathlib.Omega.{arith}
 use Rattle.list_pairs.proofs.list_pairs.Goals as goal
+use Rattle.list_pairs.proofs.list_pairs.Goals.{After-rooms_fault, In-Fine}
 
 -- the first checks found nothing
-fine : (c : goal.In-Fine) → list_input_fault c.args.points.now c.args.triangles.now c.args.r c.args.placement c.args.labels.now ≡ Fine
+fine : (c : In-Fine) → list_input_fault c.args.points.now c.args.triangles.now c.args.r c.args.placement c.args.labels.now ≡ Fine
 fine c = sym c.list_input_fault.ensures ∙ c.in-Fine.is
 
-ready : (c : goal.In-Fine) → Ready c.args.points.now c.args.triangles.now c.args.r c.args.placement × Sheet c.args.r c.args.labels.now
+ready : (c : In-Fine) → Ready c.args.points.now c.args.triangles.now c.args.r c.args.placement × Sheet c.args.r c.args.labels.now
 ready c = let a = c.args in input_ready a.points.now a.triangles.now a.r a.placement a.labels.now (fine c)
 
--- the first checks found nothing
-fine_2 : (c : goal.After-count_cells-cells) → list_input_fault c.args.points.now c.args.triangles.now c.args.r c.args.placement c.args.labels.now ≡ Fine
-fine_2 c = sym c.list_input_fault.ensures ∙ c.in-Fine.is
-
-ready_2 : (c : goal.After-count_cells-cells) → Ready c.args.points.now c.args.triangles.now c.args.r c.args.placement × Sheet c.args.r c.args.labels.now
-ready_2 c = let a = c.args in input_ready a.points.now a.triangles.now a.r a.placement a.labels.now (fine_2 c)
-
--- the first checks found nothing
-fine_3 : (c : goal.After-write_pairs-arg-in-Fine-rooms_fault-1) → list_input_fault c.args.points.now c.args.triangles.now c.args.r c.args.placement c.args.labels.now ≡ Fine
-fine_3 c = sym c.list_input_fault.ensures ∙ c.in-Fine.is
-
-ready_3 : (c : goal.After-write_pairs-arg-in-Fine-rooms_fault-1) → Ready c.args.points.now c.args.triangles.now c.args.r c.args.placement × Sheet c.args.r c.args.labels.now
-ready_3 c = let a = c.args in input_ready a.points.now a.triangles.now a.r a.placement a.labels.now (fine_3 c)
-
 -- what the checks of room found is what the definition says
-rooms : (c : goal.After-write_pairs-arg-in-Fine-rooms_fault-1) → c.rooms_fault.result ≡ rooms_fault (length (listed c.args.r c.args.labels.now)) (pair_count c.args.points.now c.args.triangles.now c.args.r c.args.placement c.args.labels.now) (length c.args.records.now) (length c.args.list.now)
+rooms : (c : After-rooms_fault) → c.rooms_fault.result ≡ rooms_fault (length (listed c.args.r c.args.labels.now)) (pair_count c.args.points.now c.args.triangles.now c.args.r c.args.placement c.args.labels.now) (length c.args.records.now) (length c.args.list.now)
 rooms c = let a = c.args in c.rooms_fault.ensures ∙ (λ i. rooms_fault (c.count_cells-cells.ensures.0 i) (c.count_pairs-pairs.ensures i) (length a.records.now) (length a.list.now))
 
 pub count_cells-cells-requires : goal.count_cells-cells-requires
 count_cells-cells-requires c = (ready c).1
 
 pub count_pairs-pairs-requires : goal.count_pairs-pairs-requires
-count_pairs-pairs-requires c = record { sheet = (ready_2 c).1; ready = (ready_2 c).0 }
+count_pairs-pairs-requires c = record { sheet = (ready (goal.at.count_pairs-pairs-requires c).In-Fine).1; ready = (ready (goal.at.count_pairs-pairs-requires c).In-Fine).0 }
 
 pub write_pairs-requires : goal.write_pairs-requires
-write_pairs-requires c = let a = c.args in let w = ready_3 c in let n = c.count_cells-cells.ensures.0 in let f = rooms_fine (length (listed a.r a.labels.now)) (pair_count a.points.now a.triangles.now a.r a.placement a.labels.now) (length a.records.now) (length a.list.now) (sym (rooms c) ∙ c.in-Fine-rooms_fault.is) in record { sheet = (w.1, w.0); cells_value = (n, omega (arith, n, f.0)); labels_bound = (f.1, f.2) }
+write_pairs-requires c = let a = c.args in let w = ready (goal.at.write_pairs-requires c).In-Fine in let n = c.count_cells-cells.ensures.0 in let f = rooms_fine (length (listed a.r a.labels.now)) (pair_count a.points.now a.triangles.now a.r a.placement a.labels.now) (length a.records.now) (length a.list.now) (sym (rooms (goal.at.write_pairs-requires c).After-rooms_fault) ∙ c.in-Fine-rooms_fault.is) in record { sheet = (w.1, w.0); cells_value = (n, omega (arith, n, f.0)); labels_bound = (f.1, f.2) }

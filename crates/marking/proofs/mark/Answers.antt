@@ -12,24 +12,21 @@ use Rattle.grid.specs.Grid.{Sheet}
 use Rattle.marking.specs.Painted.{Painted}
 use Rattle.marking.proofs.Laws.{ready, painted_marked}
 use Rattle.marking.proofs.mark.Goals as goal
+use Rattle.marking.proofs.mark.Goals.{In-Fine}
 
 -- the checks found nothing
-fine : (c : goal.After-mark_triangles-arg-1) → mesh_fault c.args.points.now c.args.triangles.now c.args.r c.args.placement (length c.args.labels.now) ≡ Fine
+fine : (c : In-Fine) → mesh_fault c.args.points.now c.args.triangles.now c.args.r c.args.placement (length c.args.labels.now) ≡ Fine
 fine c = sym c.mesh_fault.ensures ∙ c.in-Fine.is
-
--- the checks found nothing
-fine_2 : (c : goal.After-slice_known-in-Fine-2-1) → mesh_fault c.args.points.now c.args.triangles.now c.args.r c.args.placement (length c.args.labels.now) ≡ Fine
-fine_2 c = sym c.mesh_fault.ensures ∙ c.in-Fine.is
 
 pub mark_triangles-requires : goal.mark_triangles-requires
 mark_triangles-requires c = let a = c.args in
     let l = a.labels.now in
-    let w = ready a.points.now a.triangles.now a.r a.placement (length l) (fine c) in
+    let w = ready a.points.now a.triangles.now a.r a.placement (length l) (fine (goal.at.mark_triangles-requires c).In-Fine) in
     let zeros : Sheet a.r (replicate (length l) 0) = record { sound = w.1; size = length-replicate (length l) 0 ∙ w.2 } in record { sheet = subst (Sheet a.r) (sym c.clear.ensures) zeros; ready = w.0 }
 
 pub returns-in-Fine : goal.returns-in-Fine
 returns-in-Fine c = let a = c.args in
     let l = a.labels.now in
-    let ok = fine_2 c in
+    let ok = fine (goal.at.returns-in-Fine c).In-Fine in
     let w = ready a.points.now a.triangles.now a.r a.placement (length l) ok in
     let done = subst (λ (z : List ℕ). Painted a.r (is_surface a.points.now a.triangles.now a.r a.placement) z c.mark_triangles.new.labels) c.clear.ensures c.mark_triangles.ensures in record { answer = ap (λ (x : Checked). unless x (answers tt)) (sym ok); labels_after = painted_marked a.points.now a.triangles.now a.r a.placement (length l) _ w.2 done ∙ ap (λ (x : Checked). lent_after x l (marked_labels a.points.now a.triangles.now a.r a.placement)) (sym ok) }

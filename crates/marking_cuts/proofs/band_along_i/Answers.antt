@@ -7,22 +7,11 @@ use Prim.Native.Nat.{◌+◌, ◌*◌, ◌^◌}
 use Rattle.ints.specs.Bound.{Val, arg, plus, minus, times, v_in, v_add, v_sub, fits, in_up}
 use Rattle.marking_cuts.proofs.Laws.{line_i, cut_is, cut_same}
 use Rattle.marking_cuts.proofs.band_along_i.Goals as goal
+use Rattle.marking_cuts.proofs.band_along_i.Goals.{Start}
 
 -- what the row adds to every place
-base : (c : goal.After-struct_told-3-1) → Val (2 ^ 49 * 255 + 2 ^ 49 * 255) (to_z w64 (of_z w64 (to_z w64 (of_z w64 (to_z w64 (of_z w64 c.args.s.y) *ℤ to_z w64 (of_z w64 c.args.j))) +ℤ to_z w64 (of_z w64 (to_z w64 (of_z w64 c.args.s.z) *ℤ to_z w64 (of_z w64 c.args.k)))))) (c.args.s.y *ℤ c.args.j +ℤ c.args.s.z *ℤ c.args.k)
+base : (c : Start) → Val (2 ^ 49 * 255 + 2 ^ 49 * 255) (to_z w64 (of_z w64 (to_z w64 (of_z w64 (to_z w64 (of_z w64 c.args.s.y) *ℤ to_z w64 (of_z w64 c.args.j))) +ℤ to_z w64 (of_z w64 (to_z w64 (of_z w64 c.args.s.z) *ℤ to_z w64 (of_z w64 c.args.k)))))) (c.args.s.y *ℤ c.args.j +ℤ c.args.s.z *ℤ c.args.k)
 base c = plus tt (times tt (arg tt c.requires.1.y_in) (arg tt c.requires.2)) (times tt (arg tt c.requires.1.z_in) (arg tt c.requires.3))
-
--- what the row adds to every place
-base_2 : (c : goal.After-struct_told-4-1) → Val (2 ^ 49 * 255 + 2 ^ 49 * 255) (to_z w64 (of_z w64 (to_z w64 (of_z w64 (to_z w64 (of_z w64 c.args.s.y) *ℤ to_z w64 (of_z w64 c.args.j))) +ℤ to_z w64 (of_z w64 (to_z w64 (of_z w64 c.args.s.z) *ℤ to_z w64 (of_z w64 c.args.k)))))) (c.args.s.y *ℤ c.args.j +ℤ c.args.s.z *ℤ c.args.k)
-base_2 c = plus tt (times tt (arg tt c.requires.1.y_in) (arg tt c.requires.2)) (times tt (arg tt c.requires.1.z_in) (arg tt c.requires.3))
-
--- what the row adds to every place
-base_3 : (c : goal.After-struct_told-5-1) → Val (2 ^ 49 * 255 + 2 ^ 49 * 255) (to_z w64 (of_z w64 (to_z w64 (of_z w64 (to_z w64 (of_z w64 c.args.s.y) *ℤ to_z w64 (of_z w64 c.args.j))) +ℤ to_z w64 (of_z w64 (to_z w64 (of_z w64 c.args.s.z) *ℤ to_z w64 (of_z w64 c.args.k)))))) (c.args.s.y *ℤ c.args.j +ℤ c.args.s.z *ℤ c.args.k)
-base_3 c = plus tt (times tt (arg tt c.requires.1.y_in) (arg tt c.requires.2)) (times tt (arg tt c.requires.1.z_in) (arg tt c.requires.3))
-
--- what the row adds to every place
-base_4 : (c : goal.After-cut) → Val (2 ^ 49 * 255 + 2 ^ 49 * 255) (to_z w64 (of_z w64 (to_z w64 (of_z w64 (to_z w64 (of_z w64 c.args.s.y) *ℤ to_z w64 (of_z w64 c.args.j))) +ℤ to_z w64 (of_z w64 (to_z w64 (of_z w64 c.args.s.z) *ℤ to_z w64 (of_z w64 c.args.k)))))) (c.args.s.y *ℤ c.args.j +ℤ c.args.s.z *ℤ c.args.k)
-base_4 c = plus tt (times tt (arg tt c.requires.1.y_in) (arg tt c.requires.2)) (times tt (arg tt c.requires.1.z_in) (arg tt c.requires.3))
 
 pub overflow_add-base : goal.overflow_add-base
 overflow_add-base c =
@@ -30,10 +19,10 @@ overflow_add-base c =
     fits tt (v_add (times tt (arg tt p.1.y_in) (arg tt p.2)) (times tt (arg tt p.1.z_in) (arg tt p.3)))
 
 pub overflow_sub-s : goal.overflow_sub-s
-overflow_sub-s c = fits tt (v_sub (arg tt c.requires.1.low_in) (base c))
+overflow_sub-s c = fits tt (v_sub (arg tt c.requires.1.low_in) (base (goal.at.overflow_sub-s c).Start))
 
 pub overflow_sub-s-2 : goal.overflow_sub-s-2
-overflow_sub-s-2 c = fits tt (v_sub (arg tt c.requires.1.high_in) (base_2 c))
+overflow_sub-s-2 c = fits tt (v_sub (arg tt c.requires.1.high_in) (base (goal.at.overflow_sub-s-2 c).Start))
 
 pub cut-requires : goal.cut-requires
 cut-requires c =
@@ -41,12 +30,12 @@ cut-requires c =
       omega (arith, c.if-to-from.false),
       p.0,
       v_in (arg tt p.1.x_in),
-      in_up (2 ^ 61) tt (v_in (minus tt (arg tt p.1.low_in) (base_3 c))),
-      in_up (2 ^ 61) tt (v_in (minus tt (arg tt p.1.high_in) (base_3 c))),
+      in_up (2 ^ 61) tt (v_in (minus tt (arg tt p.1.low_in) (base (goal.at.cut-requires c).Start))),
+      in_up (2 ^ 61) tt (v_in (minus tt (arg tt p.1.high_in) (base (goal.at.cut-requires c).Start))),
     )
 
 pub returns : goal.returns
 returns c =
     let a = c.args in
     let p = c.requires in
-    cut_same a.e _ _ _ (cut_is a.e _ (arg tt p.1.x_in).is (minus tt (arg tt p.1.low_in) (base_4 c)).is (minus tt (arg tt p.1.high_in) (base_4 c)).is c.cut.ensures) (line_i a.s a.j a.k)
+    cut_same a.e _ _ _ (cut_is a.e _ (arg tt p.1.x_in).is (minus tt (arg tt p.1.low_in) (base (goal.at.returns c).Start)).is (minus tt (arg tt p.1.high_in) (base (goal.at.returns c).Start)).is c.cut.ensures) (line_i a.s a.j a.k)

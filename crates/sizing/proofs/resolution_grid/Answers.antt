@@ -5,22 +5,17 @@ use lib.Ieee.{Float, binary32, lt, div, of_bits}
 use Rattle.grid.proofs.Checks.{refused_here, refused_not}
 use Rattle.sizing.specs.Sizing.{main_of, dmain_of, extent, extent_at, axis_by_resolution, as_float, placed_at, resolution_axes, resolution_scale, grid_of, least_extent}
 use Rattle.sizing.proofs.resolution_grid.Goals as goal
+use Rattle.sizing.proofs.resolution_grid.Goals.{After-extent_at-dmain}
 
 -- the main axis's extent
-main_is : (c : goal.Then-dmain) → c.extent_at-dmain.result ≡ dmain_of c.args.s
+main_is : (c : After-extent_at-dmain) → c.extent_at-dmain.result ≡ dmain_of c.args.s
 main_is c =
-    let s = c.args.s in
-    c.extent_at-dmain.ensures ∙ ap (λ (m : ℕ). extent_at m (extent s.x) (extent s.y) (extent s.z)) c.main_axis-m.ensures
-
--- the main axis's extent
-main_is_2 : (c : goal.After-graded) → c.extent_at-dmain.result ≡ dmain_of c.args.s
-main_is_2 c =
     let s = c.args.s in
     c.extent_at-dmain.ensures ∙ ap (λ (m : ℕ). extent_at m (extent s.x) (extent s.y) (extent s.z)) c.main_axis-m.ensures
 
 pub returns-then-dmain : goal.returns-then-dmain
 unfolding of_bits
-returns-then-dmain c = refused_here _ 7 0 _ (ap (λ (d : Float). lt d least_extent) (sym (main_is c)) ∙ c.if-dmain.true)
+returns-then-dmain c = refused_here _ 7 0 _ (ap (λ (d : Float). lt d least_extent) (sym (main_is (goal.at.returns-then-dmain c).After-extent_at-dmain)) ∙ c.if-dmain.true)
 
 pub returns : goal.returns
 unfolding of_bits
@@ -29,7 +24,7 @@ returns c =
     let s = a.s in
     let r = a.resolution in
     let em : c.main_axis-m.result ≡ main_of s = c.main_axis-m.ensures in
-    let ed : c.extent_at-dmain.result ≡ dmain_of s = main_is_2 c in
+    let ed : c.extent_at-dmain.result ≡ dmain_of s = main_is (goal.at.returns c).After-extent_at-dmain in
     let e0 : c.axis_by_resolution-r0.result ≡ (resolution_axes s r).r0 = c.axis_by_resolution-r0.ensures ∙ (λ t. axis_by_resolution r (em t) 0 (extent s.x) (ed t)) in
     let e1 : c.axis_by_resolution-r1.result ≡ (resolution_axes s r).r1 = c.axis_by_resolution-r1.ensures ∙ (λ t. axis_by_resolution r (em t) 1 (extent s.y) (ed t)) in
     let e2 : c.axis_by_resolution-r2.result ≡ (resolution_axes s r).r2 = c.axis_by_resolution-r2.ensures ∙ (λ t. axis_by_resolution r (em t) 2 (extent s.z) (ed t)) in
