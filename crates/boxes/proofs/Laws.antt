@@ -1,4 +1,6 @@
 -- What the contract of `boxes` says: its numbers, that a refusal writes nothing, that two results coincide, its tables, how many numbers the lists have and which each is. Assumes nothing.
+use Rattle.grid.specs.declared.Refusal.{Refusal}
+use Rattle.std.specs.Prelude.{Ok, Err}
 use mathlib.Core.Bool.{false, not, ◌&&◌}
 use mathlib.Core.Path.{◌≡◌, refl, sym, ap, ◌∙◌}
 use mathlib.Core.List.{List, [], ◌∷◌}
@@ -12,25 +14,23 @@ use lib.Ieee.{Float, nan, fin, binary32, le, eq, div}
 use Rattle.grid.specs.declared.Axes.{Axes}
 use Rattle.grid.specs.declared.Cell.{Cell}
 use Rattle.grid.specs.declared.Placement.{Placement}
-use Rattle.grid.specs.declared.Checked.TheVariants.{Fine}
-use Rattle.grid.specs.Answers.{Outcome, answers, refuses, Finds, Gives}
+use Rattle.grid.specs.Answers.{Outcome, Finds, Gives}
 use Rattle.grid.specs.Counts.{count_of}
 use Rattle.grid.specs.Grid.{cells}
 use Rattle.grid.specs.Checks.{grid_fault, takes}
-use Rattle.grid.proofs.Checks.{finds_if, finds_then, finds_first, finds_grid, gives_unless}
+use Rattle.grid.proofs.Checks.{finds_if, finds_then, finds_first, finds_grid, gives_then}
 use Rattle.sizing.specs.Points.{bounded}
 use Rattle.marking_mesh.specs.Faults.{origin_fault, least_scale, greatest_scale, lent_fault}
 use Rattle.order.specs.Order.{known_labels}
 use Rattle.order.specs.Output.{room_fault, over}
 use Rattle.order.proofs.Lists.{join_length}
-use Rattle.order.proofs.Outputs as outputs
+use Rattle.grid.proofs.Checks as check
 use Rattle.order.proofs.Outputs.{append_left, finds_room}
 use Rattle.order.proofs.Sums.{kept_count}
-use Rattle.boxes.specs.declared.Boxing.{Boxing}
-use Rattle.boxes.specs.declared.Boxing.TheVariants.{Boxed, Refused}
-use Rattle.boxes.specs.Boxes.{outcome, corners, corner_of, cell_corners, faces, face_of, cell_triangles, box_cells, box_count, box_points, box_triangles, asked_fault, boxes_fault, rooms_fault, all_fault, boxes_answer, points_buffer, triangles_buffer}
+use Rattle.boxes.specs.Boxes.{corners, corner_of, cell_corners, faces, face_of, cell_triangles, box_cells, box_count, box_points, box_triangles, asked_fault, boxes_fault, rooms_fault, all_fault, boxes_answer, points_buffer, triangles_buffer}
 use Rattle.boxes_corners.proofs.Rows.{join_at}
 use Rattle.boxes_corners.proofs.Tables.{eight_corners, twelve_faces, corner_row, face_row, face_corner, corner_length, face_length}
+use Rattle.grid.specs.declared.Reason.TheVariants.{BadSize, BadLabel, BadNumber}
 
 -- ---- the tables
 
@@ -114,41 +114,32 @@ module _ (n b t x : ℕ) (h : b < n) (g : t < 12) (k : x < 3) where
 abbrev pub Meets : List ℕ → Axes → Placement → ℕ → List Float → List ℕ → Outcome ℕ → List Float → List ℕ → Type 0
 Meets l r p label ps ts o ps' ts' = (o ≡ boxes_answer l r p label ps ts) × ((ps' ≡ points_buffer l r p label ps ts) × (ts' ≡ triangles_buffer l r p label ps ts))
 
-outcome_one : (a b : Boxing) → outcome a ≡ outcome b → a ≡ b
-outcome_one (Boxed m) (Boxed n) h = let e : m ≡ n = cc in ap Boxed e
-outcome_one (Boxed m) (Refused g) h = absurd (let z : ◌≡◌ {A = ℕ} 0 1 = cc in omega arith)
-outcome_one (Refused f) (Boxed n) h = absurd (let z : ◌≡◌ {A = ℕ} 0 1 = cc in omega arith)
-outcome_one (Refused f) (Refused g) h =
-    let e : f.number ≡ g.number = cc in
-    let k : f.place ≡ g.place = cc in
-    λ t. Refused (record { number = e t; place = k t })
-
 module _ (l : List ℕ) (r : Axes) (p : Placement) (label : ℕ) (ps : List Float) (ts : List ℕ) where
   -- the numbers that it gives
   pub boxes_numbers : Gives (3 ∷ 5 ∷ 8 ∷ 9 ∷ 11 ∷ 14 ∷ []) (boxes_answer l r p label ps ts)
-  boxes_numbers = gives_unless ns (all_fault l r p label (length ps) (length ts)) (answers (box_count l r label)) (finds_then ns (boxes_fault l r p label) _ map rooms) (λ f. tt)
+  boxes_numbers = gives_then ns (all_fault l r p label (length ps) (length ts)) (Ok (box_count l r label)) (finds_then ns (boxes_fault l r p label) _ map rooms) (λ f. tt)
     where
       ns : List ℕ
       ns = 3 ∷ 5 ∷ 8 ∷ 9 ∷ 11 ∷ 14 ∷ []
 
       map : Finds ns (boxes_fault l r p label)
       map =
-          finds_then ns (origin_fault p) _ (finds_first ns 3 (λ n. 0 + n) (bounded 20) (p.x ∷ p.y ∷ p.z ∷ []) tt)
+          finds_then ns (origin_fault p) _ (finds_first ns BadNumber (λ n. 0 + n) (bounded 20) (p.x ∷ p.y ∷ p.z ∷ []) tt)
           (finds_then ns (lent_fault p) _
-          (finds_if ns (not (le least_scale p.scale && le p.scale greatest_scale && eq p.reciprocal (div binary32 (fin false 1 (pos 0)) p.scale))) 5 0 Fine tt tt)
+          (finds_if ns (not (le least_scale p.scale && le p.scale greatest_scale && eq p.reciprocal (div binary32 (fin false 1 (pos 0)) p.scale))) BadSize 0 (Ok tt) tt tt)
           (finds_then ns (grid_fault r (length l)) _ (finds_grid ns r (length l) tt tt)
-          (finds_then ns (asked_fault label) _ (finds_if ns (ltb 8 label) 11 0 Fine tt tt)
-          (finds_first ns 11 (λ n. n) (takes known_labels) l tt))))
+          (finds_then ns (asked_fault label) _ (finds_if ns (ltb 8 label) BadLabel 0 (Ok tt) tt tt)
+          (finds_first ns BadLabel (λ n. n) (takes known_labels) l tt))))
 
       rooms : Finds ns (rooms_fault (box_count l r label) (length ps) (length ts))
       rooms = finds_then ns (room_fault (length ps) (24 * box_count l r label)) _ (finds_room ns (length ps) (24 * box_count l r label) tt) (finds_room ns (length ts) (36 * box_count l r label) tt)
 
   -- a refusal leaves both outputs
-  pub refused_same : (n k : ℕ) → boxes_answer l r p label ps ts ≡ refuses n k → (points_buffer l r p label ps ts ≡ ps) × (triangles_buffer l r p label ps ts ≡ ts)
-  refused_same n k h =
-      let f = all_fault l r p label (length ps) (length ts) in
-      (outputs.refused_same f (box_count l r label) n k ps (over (box_points p (box_cells r l label)) ps) h, outputs.refused_same f (box_count l r label) n k ts (over (box_triangles 0 (box_count l r label)) ts) h)
+  pub refused_same : (f : Refusal) → boxes_answer l r p label ps ts ≡ Err f → (points_buffer l r p label ps ts ≡ ps) × (triangles_buffer l r p label ps ts ≡ ts)
+  refused_same f h =
+      let checks = all_fault l r p label (length ps) (length ts) in
+      (check.refused_same checks (box_count l r label) f ps (over (box_points p (box_cells r l label)) ps) h, check.refused_same checks (box_count l r label) f ts (over (box_triangles 0 (box_count l r label)) ts) h)
 
   -- two results that meet it are one
-  pub settled : (a b : Boxing) (ps' ps'' : List Float) (ts' ts'' : List ℕ) → Meets l r p label ps ts (outcome a) ps' ts' → Meets l r p label ps ts (outcome b) ps'' ts'' → (a ≡ b) × (ps' ≡ ps'') × (ts' ≡ ts'')
-  settled a b ps' ps'' ts' ts'' u v = (outcome_one a b (u.0 ∙ sym v.0), u.1.0 ∙ sym v.1.0, u.1.1 ∙ sym v.1.1)
+  pub settled : (a b : Outcome ℕ) (ps' ps'' : List Float) (ts' ts'' : List ℕ) → Meets l r p label ps ts a ps' ts' → Meets l r p label ps ts b ps'' ts'' → (a ≡ b) × (ps' ≡ ps'') × (ts' ≡ ts'')
+  settled a b ps' ps'' ts' ts'' u v = ((u.0 ∙ sym v.0), u.1.0 ∙ sym v.1.0, u.1.1 ∙ sym v.1.1)

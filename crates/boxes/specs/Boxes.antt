@@ -1,27 +1,18 @@
 -- 01, List, classes, planes, boxes: "Boxes: eight corners and twelve triangles a cell, in V's order." Definitions only.
-use Rattle.std.specs.Prelude.{List, [], ◌++◌, ℕ, zero, suc, ◌+◌, ◌*◌, eqb, ltb, length, Float}
+use Rattle.std.specs.Prelude.{List, [], ◌++◌, ℕ, zero, suc, ◌+◌, ◌*◌, eqb, ltb, length, Float, Ok}
 use Rattle.grid.specs.declared.Axes.{Axes}
 use Rattle.grid.specs.declared.Cell.{Cell}
-use Rattle.grid.specs.declared.Checked.{Checked}
-use Rattle.grid.specs.declared.Checked.TheVariants.{Fine}
 use Rattle.grid.specs.declared.Placement.{Placement}
-use Rattle.grid.specs.Answers.{Outcome, answers, refuses, fault_if, ◌and_then◌, unless, lent_after}
+use Rattle.grid.specs.Answers.{Outcome, fault_if, ◌and_then◌, lent_after, Checked}
 use Rattle.grid.specs.Grid.{at}
 use Rattle.grid.specs.Checks.{grid_fault, labels_fault}
 use Rattle.grid.specs.Labels.{SURFACE}
-use Rattle.grid.specs.Refusals.{BAD_LABEL}
 use Rattle.marking_mesh.specs.Faults.{origin_fault, lent_fault}
 use Rattle.order.specs.Order.{in_order, keep, join_all, known_labels}
 use Rattle.order.specs.Output.{room_fault, over}
-use Rattle.boxes.specs.declared.Boxing.{Boxing}
-use Rattle.boxes.specs.declared.Boxing.TheVariants.{Boxed, Refused}
 pub use Rattle.boxes_corners.specs.Corners.{lo, hi, cell_corners, cell_triangles}
+use Rattle.grid.specs.declared.Reason.TheVariants.{BadLabel}
 unfoldable pub use Rattle.boxes_corners.specs.Corners.{corners, faces, corner_of, face_of}
-
--- 01's number and values for each case of `Boxing`: how many cells were made boxes
-abbrev pub outcome : Boxing → Outcome ℕ
-outcome (Boxed n) = answers n
-outcome (Refused f) = refuses f.number f.place
 
 -- ---- all cells that have the asked label, "i outermost, k innermost"
 
@@ -40,7 +31,7 @@ box_triangles m (suc n) = cell_triangles (8 * m) ++ box_triangles (m + 1) n
 
 -- "11: a label the call does not take"; "an asked label comes first, as 0"
 abbrev pub asked_fault : ℕ → Checked
-asked_fault label = fault_if (ltb SURFACE label) BAD_LABEL 0 Fine
+asked_fault label = fault_if (ltb SURFACE label) BadLabel 0 (Ok tt)
 
 abbrev pub boxes_fault : List ℕ → Axes → Placement → ℕ → Checked
 boxes_fault l r placement label = origin_fault placement and_then lent_fault placement and_then grid_fault r (length l) and_then asked_fault label and_then labels_fault known_labels l
@@ -56,7 +47,7 @@ abbrev pub all_fault : List ℕ → Axes → Placement → ℕ → ℕ → ℕ �
 all_fault l r placement label p t = boxes_fault l r placement label and_then rooms_fault (box_count l r label) p t
 
 abbrev pub boxes_answer : List ℕ → Axes → Placement → ℕ → List Float → List ℕ → Outcome ℕ
-boxes_answer l r placement label ps ts = unless (all_fault l r placement label (length ps) (length ts)) (answers (box_count l r label))
+boxes_answer l r placement label ps ts = all_fault l r placement label (length ps) (length ts) and_then Ok (box_count l r label)
 
 abbrev pub points_buffer : List ℕ → Axes → Placement → ℕ → List Float → List ℕ → List Float
 points_buffer l r placement label ps ts = lent_after (all_fault l r placement label (length ps) (length ts)) ps (over (box_points placement (box_cells r l label)) ps)

@@ -6,20 +6,14 @@ ghost use Rattle.std.specs.Float.{nan};
 ghost use Rattle.grid.specs.Counts.{count_of};
 ghost use Rattle.grid.specs.Grid.{Sheet};
 ghost use Rattle.order.specs.Output.{Written};
-ghost use Rattle.boxes.specs.Boxes.{asked_fault, boxes_fault, rooms_fault, box_cells, box_points, box_triangles, outcome, boxes_answer, points_buffer, triangles_buffer};
+ghost use Rattle.boxes.specs.Boxes.{asked_fault, boxes_fault, rooms_fault, box_cells, box_points, box_triangles, boxes_answer, points_buffer, triangles_buffer};
 
-use grid::{Axes, Cell, Checked, Placement, Refusal, SURFACE};
-
-// What boxes answers: how many cells there are; their points and triangles are in the outputs.
-#[derive(Clone, Copy)]
-pub enum Boxing {
-    Boxed(usize),
-    Refused(Refusal),
-}
+use grid::{Axes, Cell, Placement, Reason, Refusal, SURFACE};
 
 // ---- all cells of a label, in list order
 
-// The triangles of a cell begin at the number of points before its corners.
+// The triangles of a cell begin at the number of points before its corners. One walk in list order goes over the
+// cells, since three loops, one in another, would be three functions with the room of two outputs each.
 fn write_boxes(
     labels: &[u8],
     r: Axes,
@@ -52,38 +46,33 @@ fn write_boxes(
 // ---- the call
 
 // Refusal 11 of the asked label.
-fn asked_fault(label: u8) -> Checked
+fn asked_fault(label: u8) -> Result<(), Refusal>
     ensures { result ≡ asked_fault label }
 {
     if SURFACE < label {
-        return grid::fault(grid::BAD_LABEL, 0);
+        return Err(Reason::BadLabel.at(0));
     }
-    Checked::Fine
+    Ok(())
 }
 
 // Refusals 3, 5, 8, 9 and 11.
-fn boxes_fault(labels: &[u8], r: Axes, placement: Placement, label: u8) -> Checked
+fn boxes_fault(labels: &[u8], r: Axes, placement: Placement, label: u8) -> Result<(), Refusal>
     ensures { result ≡ boxes_fault labels.now r placement label }
 {
-    let numbers = marking_checks::origin_fault(placement);
-    let lent = marking_checks::lent_fault(placement);
-    let of_grid = grid::grid_fault(r, labels.len());
-    let asked = asked_fault(label);
-    let of_labels = grid::labels_fault(labels, order::known_labels());
-    let from_11 = grid::and_then(asked, of_labels);
-    let from_8 = grid::and_then(of_grid, from_11);
-    let from_5 = grid::and_then(lent, from_8);
-    grid::and_then(numbers, from_5)
+    marking_checks::origin_fault(placement)?;
+    marking_checks::lent_fault(placement)?;
+    grid::grid_fault(r, labels.len())?;
+    asked_fault(label)?;
+    grid::labels_fault(labels, order::known_labels())
 }
 
 // Refusal 14 of two outputs of these lengths for the boxes of n cells.
-fn rooms_fault(n: usize, points: usize, triangles: usize) -> Checked
+fn rooms_fault(n: usize, points: usize, triangles: usize) -> Result<(), Refusal>
     requires { n ≤ 16777216 }
     ensures { result ≡ rooms_fault n points triangles }
 {
-    let of_points = order::room_fault(points, 24 * n as u64);
-    let of_triangles = order::room_fault(triangles, 36 * n as u64);
-    grid::and_then(of_points, of_triangles)
+    order::room_fault(points, 24 * n as u64)?;
+    order::room_fault(triangles, 36 * n as u64)
 }
 
 // Writes the eight corners and the twelve triangles of each cell that has the label, in list order, or
@@ -95,22 +84,14 @@ pub fn boxes(
     label: u8,
     points: &mut [f32],
     triangles: &mut [u32],
-) -> Boxing
-    ensures answer { outcome result ≡ boxes_answer labels.now r placement label points.old triangles.old }
+) -> Result<usize, Refusal>
+    ensures answer { result ≡ boxes_answer labels.now r placement label points.old triangles.old }
     ensures points_after { points.new ≡ points_buffer labels.now r placement label points.old triangles.old }
     ensures triangles_after { triangles.new ≡ triangles_buffer labels.now r placement label points.old triangles.old }
 {
-    match boxes_fault(labels, r, placement, label) {
-        Checked::Fault(f) => Boxing::Refused(f),
-        Checked::Fine => {
-            let n = grid::count_label(labels, label);
-            match rooms_fault(n, points.len(), triangles.len()) {
-                Checked::Fault(f) => Boxing::Refused(f),
-                Checked::Fine => {
-                    write_boxes(labels, r, label, placement, points, triangles);
-                    Boxing::Boxed(n)
-                }
-            }
-        }
-    }
+    boxes_fault(labels, r, placement, label)?;
+    let n = grid::count_label(labels, label);
+    rooms_fault(n, points.len(), triangles.len())?;
+    write_boxes(labels, r, label, placement, points, triangles);
+    Ok(n)
 }

@@ -70,10 +70,8 @@ pub fn put_corners(points: &mut [f32], from: usize, placement: Placement, c: Cel
     requires i_bound { (c.i < 256) × (c.j < 256) × (c.k < 256) }
     ensures { Written nan from (cell_corners placement c) points.old points.new }
 {
-    let mut v = 0usize;
-    while v < 8 {
+    for v in 0..8 {
         put_corner(points, from + 3 * v, placement, c, v);
-        v += 1;
     }
 }
 
@@ -93,9 +91,7 @@ pub fn put_triangles(triangles: &mut [u32], from: usize, base: u32)
     requires { (from + 36 ≤ length triangles.old) × (base ≤ 134217728) }
     ensures { Written 0 from (cell_triangles base) triangles.old triangles.new }
 {
-    let mut t = 0usize;
-    while t < 12 {
+    for t in 0..12 {
         put_triangle(triangles, from + 3 * t, base, t);
-        t += 1;
     }
 }

@@ -1,11 +1,11 @@
 -- What the exported functions share: the relations of fill and edits told of a flat answer, and where a part of a list lies. Assumes nothing.
+use Rattle.std.specs.Prelude.{Ok, Err}
 use mathlib.Core.Bool.{Bool, true, false, cond}
 use mathlib.Core.Path.{◌≡◌, refl, sym, ap, subst}
 use mathlib.Core.List.{List, [], ◌∷◌}
 use Prim.Native.Nat.{ℕ, ◌-◌, ◌≤◌}
 use lib.ListN.{take, drop}
 use Rattle.grid.specs.declared.Axes.{Axes}
-use Rattle.grid.specs.declared.Checked.TheVariants.{Fine, Fault}
 use Rattle.grid.specs.declared.Refusal.{Refusal}
 use Rattle.grid.specs.Answers.{fault_if, Outcome, Ends}
 use Rattle.fill.specs.declared.Mode.{Mode}
@@ -23,6 +23,7 @@ use Rattle.capi_flat.specs.declared.Slice.{Slice}
 use Rattle.capi_flat.proofs.Laws.{tells}
 use Rattle.capi_flat.specs.Flat.{Flat, flat_of, Tells}
 use Rattle.capi_flat.specs.Structs.{no_fill, slice_at}
+use Rattle.grid.specs.declared.Reason.TheVariants.{BadRange}
 
 -- ---- the relations of fill and edits
 
@@ -53,17 +54,17 @@ module _ (list : List ℕ) (start end : ℕ) where
   abbrev by : Bool → Slice
   by bad = cond bad (record { start = 0; length = 0 }) (record { start = start; length = end - start })
 
-  pub slice_there : range_fault list start end ≡ Fine → start ≤ end
+  pub slice_there : range_fault list start end ≡ Ok tt → start ≤ end
   slice_there h = (slice_length list start end h).0
 
-  pub slice_found : range_fault list start end ≡ Fine → (record { start = start; length = end - start } ≡ slice_at list start end) × (take (end - start) (drop start list) ≡ list_slice list start end)
+  pub slice_found : range_fault list start end ≡ Ok tt → (record { start = start; length = end - start } ≡ slice_at list start end) × (take (end - start) (drop start list) ≡ list_slice list start end)
   slice_found h =
       let w = slice_length list start end h in
-      (ap by (sym (passed (bad_range list start end) 15 0 Fine h).0), sym (slice_good list start end w.0 w.1))
+      (ap by (sym (passed (bad_range list start end) BadRange 0 (Ok tt) h).0), sym (slice_good list start end w.0 w.1))
 
-  pub slice_missing : (f : Refusal) → range_fault list start end ≡ Fault f → (record { start = 0; length = 0 } ≡ slice_at list start end) × (take 0 (drop 0 list) ≡ list_slice list start end)
+  pub slice_missing : (f : Refusal) → range_fault list start end ≡ Err f → (record { start = 0; length = 0 } ≡ slice_at list start end) × (take 0 (drop 0 list) ≡ list_slice list start end)
   slice_missing f h = let b = bad (bad_range list start end) h in (ap by (sym b), sym (slice_bad list start end b))
     where
-      bad : (b : Bool) → fault_if b 15 0 Fine ≡ Fault f → b ≡ true
+      bad : (b : Bool) → fault_if b BadRange 0 (Ok tt) ≡ Err f → b ≡ true
       bad true e = refl
       bad false e = absurd (no_fault f (sym e))

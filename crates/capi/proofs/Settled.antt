@@ -1,25 +1,21 @@
 -- Two results of an exported function that fit its contract coincide, and what a caller hears is what the call behind it answered. Assumes nothing.
-use mathlib.Core.Path.{◌≡◌, refl, sym, ap, subst, ◌∙◌}
+use Rattle.std.specs.Prelude.{Ok}
+use mathlib.Core.Path.{◌≡◌, refl}
 use mathlib.Core.List.{List, [], ◌∷◌}
 use Prim.Native.Nat.{ℕ}
 use lib.Ieee.{Float}
 use Rattle.grid.specs.declared.Axes as grid-axes
 use Rattle.grid.specs.declared.Placement as grid-placement
-use Rattle.grid.specs.Answers.{Outcome, answers, refuses, Ends}
+use Rattle.grid.specs.Answers.{Outcome, Ends}
 use Rattle.sizing.specs.Sizing.{by_size, by_resolution}
 use Rattle.sizing.proofs.Ranges.{size_numbers, resolution_numbers}
 use Rattle.marking.specs.Marked.{mark_answer}
 use Rattle.marking.proofs.Laws.{mark_numbers}
 use Rattle.fill.specs.declared.Mode.{Mode}
 use Rattle.fill.specs.declared.FillCounts as fill-counts
-use Rattle.fill.specs.declared.Filling.{Filling}
-use Rattle.fill.specs.declared.Filling.TheVariants as filling
 use Rattle.fill.specs.Modes as fills
 use Rattle.fill.proofs.Laws as fill-laws
-use Rattle.edits.specs.declared.Editing.{Editing}
-use Rattle.edits.specs.declared.Editing.TheVariants as editing
 use Rattle.edits.specs.Edits.{Edit}
-use Rattle.edits.specs.Edits as edits
 use Rattle.edits.specs.History.{Call}
 use Rattle.edits.proofs.Laws as edit-laws
 use Rattle.list.specs.List.{cells_answer}
@@ -34,27 +30,20 @@ use Rattle.planes.proofs.Laws.{planes_numbers, split_numbers}
 use Rattle.boxes.specs.Boxes.{boxes_answer}
 use Rattle.boxes.proofs.Laws.{boxes_numbers}
 use Rattle.list_record.specs.Record.{bad_range, range_fault}
-use Rattle.grid.proofs.Checks.{finds_if, gives_unless}
-use Rattle.grid.specs.declared.Checked.TheVariants.{Fine}
+use Rattle.grid.proofs.Checks.{finds_if}
 use Rattle.program_summary.specs.Summary.{Summarizes}
 use Rattle.program_summary.proofs.Once.{summary_one}
-use Rattle.program.specs.declared.Writing.{Writing}
-use Rattle.program.specs.declared.Writing.TheVariants as writing
 use Rattle.program.specs.Program as records
 use Rattle.program.proofs.Laws as record-laws
 use Rattle.capi_flat.specs.declared.Filled.{Filled}
 use Rattle.capi_flat.specs.declared.Summarized.{Summarized}
 use Rattle.capi_flat.specs.declared.Counted.{Counted}
 use Rattle.capi_flat.specs.Flat.{flat_of, heard, Tells}
-use Rattle.capi_flat.specs.Structs.{filled, counted, summarized, no_grid, no_fill, no_list, no_planes, no_sides, no_summary, as_answer}
+use Rattle.capi_flat.specs.Structs.{filled, counted, summarized, no_grid, no_fill, no_list, no_planes, no_sides, no_summary}
 use Rattle.capi_flat.proofs.Laws.{heard_flat, tells_one, filled_one, counted_one, summarized_one}
+use Rattle.grid.specs.declared.Reason.TheVariants.{BadRange}
 
 -- ---- fill and edits
-
--- every outcome of a fill is one of its cases
-as_filling : (o : Outcome fill-counts.FillCounts) → (f : Filling) × (fills.outcome f ≡ o)
-as_filling (answers n) = (filling.Filled n, refl)
-as_filling (refuses n place) = (filling.Refused (record { number = n; place = place }), refl)
 
 pub fill_settled : (mode : Mode) (r : grid-axes.Axes) (l : List ℕ) (a b : Filled) (m n : List ℕ)
     → Tells no_fill (λ o. Ends (fills.fill_fault r l) l (fills.Fills mode r l) o m) (filled a)
@@ -66,26 +55,14 @@ fill_settled mode r l a b m n p q = let w = tells_one no_fill Allowed one (fille
     Allowed o x = Ends (fills.fill_fault r l) l (fills.Fills mode r l) o x
 
     one : (o p : Outcome fill-counts.FillCounts) (x y : List ℕ) → Allowed o x → Allowed p y → (o ≡ p) × (x ≡ y)
-    one o p x y u v =
-        let f = as_filling o in
-        let g = as_filling p in
-        let w = fill-laws.settled mode r l f.0 g.0 x y (subst (λ z. Allowed z x) (sym f.1) u) (subst (λ z. Allowed z y) (sym g.1) v) in
-        (sym f.1 ∙ ap fills.outcome w.0 ∙ g.1, w.1)
-
-as_editing : (o : Outcome ℕ) → (f : Editing) × (edits.outcome f ≡ o)
-as_editing (answers n) = (editing.Changed n, refl)
-as_editing (refuses n place) = (editing.Refused (record { number = n; place = place }), refl)
+    one o p x y u v = fill-laws.settled mode r l o p x y u v
 
 pub edit_settled : (r : grid-axes.Axes) (e : Edit) (l : List ℕ) (a b : Counted) (m n : List ℕ)
     → Tells 0 (λ o. Call r e l o m) (counted a) → Tells 0 (λ o. Call r e l o n) (counted b) → (a ≡ b) × (m ≡ n)
 edit_settled r e l a b m n p q = let w = tells_one 0 (Call r e l) one (counted a) (counted b) m n p q in (counted_one a b w.0, w.1)
   where
     one : (o p : Outcome ℕ) (x y : List ℕ) → Call r e l o x → Call r e l p y → (o ≡ p) × (x ≡ y)
-    one o p x y u v =
-        let f = as_editing o in
-        let g = as_editing p in
-        let w = edit-laws.settled r e l f.0 g.0 x y (subst (λ z. Call r e l z x) (sym f.1) u) (subst (λ z. Call r e l z y) (sym g.1) v) in
-        (sym f.1 ∙ ap edits.outcome w.0 ∙ g.1, w.1)
+    one o p x y u v = edit-laws.settled r e l o p x y u v
 
 -- ---- the program's input
 
@@ -94,20 +71,12 @@ summarize_settled input a b p q =
     summarized_one a b
     (tells_one {B = Unit} no_summary (λ o u. Summarizes input o) (λ o v x y m n. (summary_one input o v m n, refl)) (summarized a) (summarized b) tt tt p q).0
 
-as_writing : (o : Outcome ℕ) → (w : Writing) × (records.outcome w ≡ o)
-as_writing (answers n) = (writing.Wrote n, refl)
-as_writing (refuses n place) = (writing.Refused (record { number = n; place = place }), refl)
-
 pub run_settled : (input out : List ℕ) (a b : Counted) (m n : List ℕ)
     → Tells 0 (λ o. records.Runs input out o m) (counted a) → Tells 0 (λ o. records.Runs input out o n) (counted b) → (a ≡ b) × (m ≡ n)
 run_settled input out a b m n p q = let w = tells_one 0 (records.Runs input out) one (counted a) (counted b) m n p q in (counted_one a b w.0, w.1)
   where
     one : (o p : Outcome ℕ) (x y : List ℕ) → records.Runs input out o x → records.Runs input out p y → (o ≡ p) × (x ≡ y)
-    one o p x y u v =
-        let f = as_writing o in
-        let g = as_writing p in
-        let w = record-laws.settled input out f.0 g.0 x y (subst (λ z. records.Runs input out z x) (sym f.1) u) (subst (λ z. records.Runs input out z y) (sym g.1) v) in
-        (sym f.1 ∙ ap records.outcome w.0 ∙ g.1, w.1)
+    one o p x y u v = record-laws.settled input out o p x y u v
 
 -- ---- what is heard is what the call answered: 0 is no refusal's number
 
@@ -128,10 +97,10 @@ pub pairs_heard : (ps : List Float) (ts : List ℕ) (r : grid-axes.Axes) (placem
     → heard (flat_of no_list (pairs_answer ps ts r placement l o q)) ≡ pairs_answer ps ts r placement l o q
 pairs_heard ps ts r placement l o q = heard_flat no_list (1 ∷ 2 ∷ 3 ∷ 4 ∷ 5 ∷ 8 ∷ 9 ∷ 10 ∷ 11 ∷ 14 ∷ []) (pairs_answer ps ts r placement l o q) refl (pairs_numbers ps ts r placement l o q)
 
-pub range_heard : (list : List ℕ) (start end : ℕ) → heard (flat_of tt (as_answer (range_fault list start end))) ≡ as_answer (range_fault list start end)
+pub range_heard : (list : List ℕ) (start end : ℕ) → heard (flat_of tt (range_fault list start end)) ≡ range_fault list start end
 range_heard list start end =
-    heard_flat tt (15 ∷ []) (as_answer (range_fault list start end)) refl
-    (gives_unless (15 ∷ []) (range_fault list start end) (answers tt) (finds_if (15 ∷ []) (bad_range list start end) 15 0 Fine tt tt) (λ f. tt))
+    heard_flat tt (15 ∷ []) (range_fault list start end) refl
+    (finds_if (15 ∷ []) (bad_range list start end) BadRange 0 (Ok tt) tt tt)
 
 pub classes_heard : (entries ends : List ℕ) (count : ℕ) (o : List ℕ) → heard (flat_of tt (class_answer entries ends count o)) ≡ class_answer entries ends count o
 classes_heard entries ends count o = heard_flat tt (1 ∷ 4 ∷ 14 ∷ 15 ∷ []) (class_answer entries ends count o) refl (classify_numbers entries ends count o)

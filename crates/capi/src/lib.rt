@@ -22,27 +22,26 @@ ghost use Rattle.boxes.specs.Boxes as boxings;
 ghost use Rattle.program_summary.specs.Summary.{Summarizes};
 ghost use Rattle.program.specs.Program.{Runs};
 ghost use Rattle.capi_flat.specs.Flat.{flat_of, Tells};
-ghost use Rattle.capi_flat.specs.Structs.{to_axes, to_cell, to_placement, verdict, sized, filled, counted, listing, planned, parted, summarized, no_grid, no_fill, no_list, no_planes, no_sides, no_summary, as_answer, slice_at};
+ghost use Rattle.capi_flat.specs.Structs.{to_axes, to_cell, to_placement, verdict, sized, filled, counted, listing, planned, parted, summarized, no_grid, no_fill, no_list, no_planes, no_sides, no_summary, slice_at};
 
 use capi_flat::{
     Axes, Cell, Counted, Filled, Listed, Parted, Placement, Planned, Sized, Slice, Summarized,
     Verdict,
 };
 use fill::Mode;
-use grid::Checked;
 
 #[unsafe(no_mangle)]
 pub extern "C" fn vm_size_by_cell(points: &[f32], size: f32) -> Sized
     ensures { sized result ≡ flat_of no_grid (sizings.by_size points.now size) }
 {
-    capi_flat::of_sizing(sizing::by_size(points, size))
+    Sized::from(sizing::by_size(points, size))
 }
 
 #[unsafe(no_mangle)]
 pub extern "C" fn vm_size_by_resolution(points: &[f32], resolution: u32) -> Sized
     ensures { sized result ≡ flat_of no_grid (sizings.by_resolution points.now resolution) }
 {
-    capi_flat::of_sizing(sizing::by_resolution(points, resolution))
+    Sized::from(sizing::by_resolution(points, resolution))
 }
 
 #[unsafe(no_mangle)]
@@ -56,13 +55,7 @@ pub extern "C" fn vm_mark(
     ensures answer { verdict result ≡ flat_of tt (markings.mark_answer points.now triangles.now (to_axes r) (to_placement placement) labels.old) }
     ensures labels_after { labels.new ≡ markings.mark_labels points.now triangles.now (to_axes r) (to_placement placement) labels.old }
 {
-    capi_flat::of_marking(marking::mark(
-        points,
-        triangles,
-        capi_flat::to_axes(r),
-        capi_flat::to_placement(placement),
-        labels,
-    ))
+    Verdict::from(marking::mark(points, triangles, r.into(), placement.into(), labels))
 }
 
 #[unsafe(no_mangle)]
@@ -70,7 +63,7 @@ pub extern "C" fn vm_fill_surface(labels: &mut [u8], r: Axes) -> Filled
     ensures tells { Tells no_fill (λ o. Ends (fills.fill_fault (to_axes r) labels.old) labels.old (fills.Fills SurfaceOnly (to_axes r) labels.old) o labels.new) (filled result) }
     ensures means { Tells no_fill (λ o. Ends (fills.fill_fault (to_axes r) labels.old) labels.old (fills.Means SurfaceOnly (to_axes r) labels.old) o labels.new) (filled result) }
 {
-    capi_flat::of_filling(fill::fill(labels, capi_flat::to_axes(r), Mode::SurfaceOnly))
+    Filled::from(fill::fill(labels, r.into(), Mode::SurfaceOnly))
 }
 
 #[unsafe(no_mangle)]
@@ -78,7 +71,7 @@ pub extern "C" fn vm_fill_flood(labels: &mut [u8], r: Axes) -> Filled
     ensures tells { Tells no_fill (λ o. Ends (fills.fill_fault (to_axes r) labels.old) labels.old (fills.Fills Flood (to_axes r) labels.old) o labels.new) (filled result) }
     ensures means { Tells no_fill (λ o. Ends (fills.fill_fault (to_axes r) labels.old) labels.old (fills.Means Flood (to_axes r) labels.old) o labels.new) (filled result) }
 {
-    capi_flat::of_filling(fill::fill(labels, capi_flat::to_axes(r), Mode::Flood))
+    Filled::from(fill::fill(labels, r.into(), Mode::Flood))
 }
 
 #[unsafe(no_mangle)]
@@ -86,7 +79,7 @@ pub extern "C" fn vm_fill_cavities(labels: &mut [u8], r: Axes) -> Filled
     ensures tells { Tells no_fill (λ o. Ends (fills.fill_fault (to_axes r) labels.old) labels.old (fills.Fills Cavities (to_axes r) labels.old) o labels.new) (filled result) }
     ensures means { Tells no_fill (λ o. Ends (fills.fill_fault (to_axes r) labels.old) labels.old (fills.Means Cavities (to_axes r) labels.old) o labels.new) (filled result) }
 {
-    capi_flat::of_filling(fill::fill(labels, capi_flat::to_axes(r), Mode::Cavities))
+    Filled::from(fill::fill(labels, r.into(), Mode::Cavities))
 }
 
 #[unsafe(no_mangle)]
@@ -94,7 +87,7 @@ pub extern "C" fn vm_open_cell(labels: &mut [u8], r: Axes, c: Cell) -> Counted
     ensures tells { Tells 0 (λ o. Ends (edit_fault (to_axes r) labels.old (opening (to_cell c))) labels.old (Edited (to_axes r) labels.old (opening (to_cell c))) o labels.new) (counted result) }
     ensures flooded { Flooded (to_axes r) labels.old labels.old → Flooded (to_axes r) labels.new labels.new }
 {
-    capi_flat::of_editing(edits::open_cell(labels, capi_flat::to_axes(r), capi_flat::to_cell(c)))
+    Counted::from(edits::open_cell(labels, r.into(), c.into()))
 }
 
 #[unsafe(no_mangle)]
@@ -102,7 +95,7 @@ pub extern "C" fn vm_close_cell(labels: &mut [u8], r: Axes, c: Cell) -> Counted
     ensures tells { Tells 0 (λ o. Ends (edit_fault (to_axes r) labels.old (closing (to_cell c))) labels.old (Edited (to_axes r) labels.old (closing (to_cell c))) o labels.new) (counted result) }
     ensures flooded { Flooded (to_axes r) labels.old labels.old → Flooded (to_axes r) labels.new labels.new }
 {
-    capi_flat::of_editing(edits::close_cell(labels, capi_flat::to_axes(r), capi_flat::to_cell(c)))
+    Counted::from(edits::close_cell(labels, r.into(), c.into()))
 }
 
 #[unsafe(no_mangle)]
@@ -110,7 +103,7 @@ pub extern "C" fn vm_list_cells(labels: &[u8], r: Axes, records: &mut [u32]) -> 
     ensures answer { listing result ≡ flat_of no_list (lists.cells_answer labels.now (to_axes r) records.old) }
     ensures records_after { records.new ≡ lists.cells_buffer labels.now (to_axes r) records.old }
 {
-    capi_flat::of_listing(list::list_cells(labels, capi_flat::to_axes(r), records))
+    Listed::from(list::list_cells(labels, r.into(), records))
 }
 
 #[unsafe(no_mangle)]
@@ -127,11 +120,11 @@ pub extern "C" fn vm_list_pairs(
     ensures records_after { records.new ≡ records_buffer points.now triangles.now (to_axes r) (to_placement placement) labels.now records.old list.old }
     ensures list_after { list.new ≡ triangles_buffer points.now triangles.now (to_axes r) (to_placement placement) labels.now records.old list.old }
 {
-    capi_flat::of_listing(list_pairs::list_pairs(
+    Listed::from(list_pairs::list_pairs(
         points,
         triangles,
-        capi_flat::to_axes(r),
-        capi_flat::to_placement(placement),
+        r.into(),
+        placement.into(),
         labels,
         records,
         list,
@@ -140,9 +133,9 @@ pub extern "C" fn vm_list_pairs(
 
 #[unsafe(no_mangle)]
 pub extern "C" fn vm_check_range(list: &[u32], start: u32, end: u32) -> Verdict
-    ensures { verdict result ≡ flat_of tt (as_answer (range_fault list.now start end)) }
+    ensures { verdict result ≡ flat_of tt (range_fault list.now start end) }
 {
-    capi_flat::of_check(list_record::check_range(list, start, end))
+    Verdict::from(list_record::check_range(list, start, end))
 }
 
 // A returned slice does not pass the boundary: where it lies in the caller's own does.
@@ -152,11 +145,11 @@ pub extern "C" fn vm_list_slice(list: &[u32], start: u32, end: u32) -> Slice
     ensures list_value { take result.length (drop result.start list.now) ≡ list_slice list.now start end }
 {
     match list_record::check_range(list, start, end) {
-        Checked::Fault(f) => Slice {
+        Err(_) => Slice {
             start: 0,
             length: 0,
         },
-        Checked::Fine => Slice {
+        Ok(()) => Slice {
             start: start as usize,
             length: (end - start) as usize,
         },
@@ -173,7 +166,7 @@ pub extern "C" fn vm_classify(
     ensures answer { verdict result ≡ flat_of tt (classings.class_answer entries.now ends.now count classes.old) }
     ensures classes_after { classes.new ≡ classings.class_buffer entries.now ends.now count classes.old }
 {
-    capi_flat::of_classing(classes::classify(entries, ends, count, classes))
+    Verdict::from(classes::classify(entries, ends, count, classes))
 }
 
 #[unsafe(no_mangle)]
@@ -189,15 +182,7 @@ pub extern "C" fn vm_planes(
     ensures answer { planned result ≡ flat_of no_planes (planes_answer (to_placement placement) axis low high best step ds.old) }
     ensures ds_after { ds.new ≡ planes_buffer (to_placement placement) axis low high best step ds.old }
 {
-    capi_flat::of_planing(planes::planes_about(
-        capi_flat::to_placement(placement),
-        axis,
-        low,
-        high,
-        best,
-        step,
-        ds,
-    ))
+    Planned::from(planes::planes_about(placement.into(), axis, low, high, best, step, ds))
 }
 
 #[unsafe(no_mangle)]
@@ -212,7 +197,7 @@ pub extern "C" fn vm_split(
     ensures above_after { above.new ≡ split_buffer First points.now axis d above.old above.old below.old }
     ensures below_after { below.new ≡ split_buffer Second points.now axis d below.old above.old below.old }
 {
-    capi_flat::of_splitting(planes::split_points(points, axis, d, above, below))
+    Parted::from(planes::split_points(points, axis, d, above, below))
 }
 
 #[unsafe(no_mangle)]
@@ -228,26 +213,19 @@ pub extern "C" fn vm_boxes(
     ensures points_after { points.new ≡ boxings.points_buffer labels.now (to_axes r) (to_placement placement) label points.old triangles.old }
     ensures triangles_after { triangles.new ≡ boxings.triangles_buffer labels.now (to_axes r) (to_placement placement) label points.old triangles.old }
 {
-    capi_flat::of_boxing(boxes::boxes(
-        labels,
-        capi_flat::to_axes(r),
-        capi_flat::to_placement(placement),
-        label,
-        points,
-        triangles,
-    ))
+    Counted::from(boxes::boxes(labels, r.into(), placement.into(), label, points, triangles))
 }
 
 #[unsafe(no_mangle)]
 pub extern "C" fn vm_summarize(input: &[u8]) -> Summarized
     ensures { Tells no_summary (Summarizes input.now) (summarized result) }
 {
-    capi_flat::of_summing(program_summary::summarize(input))
+    Summarized::from(program_summary::summarize(input))
 }
 
 #[unsafe(no_mangle)]
 pub extern "C" fn vm_run(input: &[u8], output: &mut [u8]) -> Counted
     ensures { Tells 0 (λ o. Runs input.now output.old o output.new) (counted result) }
 {
-    capi_flat::of_writing(program::run(input, output))
+    Counted::from(program::run(input, output))
 }

@@ -1,10 +1,12 @@
 -- What a flat answer says: it determines the outcome, and the outcome determines it; so two flat answers of a call coincide. Assumes nothing.
+use Rattle.std.specs.Prelude.{Ok, Err}
 use mathlib.Core.Bool.{false}
 use mathlib.Core.Path.{◌≡◌, refl, sym, ap, subst, ◌∙◌}
 use mathlib.Core.List.{List}
-use Prim.Native.Nat.{ℕ, zero, suc}
-use lib.Dec.{T}
-use Rattle.grid.specs.Answers.{Outcome, answers, refuses, is_one_of, Gives}
+use Prim.Native.Nat.{ℕ}
+use Rattle.grid.specs.declared.Reason.{Reason}
+use Rattle.grid.specs.declared.Reason.TheVariants.{BadCount, NoPoints, BadNumber, MissingName, BadSize, BadResolution, NoExtent, BadAxis, BadBuffer, OffGrid, BadLabel, OutOfRange, WrongKind, NoRoom, BadRange, BadRecord, CutInput}
+use Rattle.grid.specs.Answers.{Outcome, refuses, is_one_of, Gives}
 use Rattle.capi_flat.specs.declared.Verdict.{Verdict}
 use Rattle.capi_flat.specs.declared.Sized.{Sized}
 use Rattle.capi_flat.specs.declared.Filled.{Filled}
@@ -20,9 +22,27 @@ use Rattle.capi_flat.specs.Structs.{verdict, sized, filled, counted, listing, pl
 
 -- of an outcome that is an answer, or a refusal with one of some numbers, 0 not among them, what is heard is that outcome
 pub heard_flat : {A : Type 0} (none : A) (ns : List ℕ) (o : Outcome A) → is_one_of 0 ns ≡ false → Gives ns o → heard (flat_of none o) ≡ o
-heard_flat none ns (answers a) h g = refl
-heard_flat none ns (refuses zero place) h g = absurd (subst T h g)
-heard_flat none ns (refuses (suc n) place) h g = refl
+heard_flat none ns (Ok a) h g = refl
+heard_flat none ns (Err f) h g = by f.reason
+  where
+    by : (r : Reason) → heard (flat_of none (refuses r f.place)) ≡ refuses r f.place
+    by BadCount = refl
+    by NoPoints = refl
+    by BadNumber = refl
+    by MissingName = refl
+    by BadSize = refl
+    by BadResolution = refl
+    by NoExtent = refl
+    by BadAxis = refl
+    by BadBuffer = refl
+    by OffGrid = refl
+    by BadLabel = refl
+    by OutOfRange = refl
+    by WrongKind = refl
+    by NoRoom = refl
+    by BadRange = refl
+    by BadRecord = refl
+    by CutInput = refl
 
 -- a call's answer, and a buffer that it wrote, where x is what the call was given for y
 pub told : {X A : Type 0} (none : A) (answer : X → Outcome A) (x y : X) (o : Outcome A) (f : Flat A) → x ≡ y → f ≡ flat_of none o → o ≡ answer x → f ≡ flat_of none (answer y)

@@ -4,8 +4,6 @@ use Rattle.std.specs.Float.{fin}
 use Rattle.grid.specs.declared.Axes as grid-axes
 use Rattle.grid.specs.declared.Cell as grid-cell
 use Rattle.grid.specs.declared.Placement as grid-placement
-use Rattle.grid.specs.declared.Checked.{Checked}
-use Rattle.grid.specs.Answers.{Outcome, answers, unless}
 use Rattle.sizing.specs.Sizing.{Laid}
 use Rattle.fill.specs.declared.FillCounts as fill-counts
 use Rattle.list.specs.declared.ListCounts as list_counts
@@ -91,11 +89,7 @@ no_sides = record { first = 0; second = 0 }
 abbrev pub no_summary : Summary
 no_summary = record { axes = record { r0 = 0; r1 = 0; r2 = 0 }; outside = 0; inside = 0; surface = 0; left = 0; scans = 0 }
 
--- ---- a check, and a part of a list
-
--- a check as a call of its own: fine is an answer with no values
-abbrev pub as_answer : Checked → Outcome Unit
-as_answer f = unless f (answers tt)
+-- ---- a part of a list
 
 -- "handed back as the part of the caller's list; for a bad range that part is empty": where it begins in that list, and how long it is
 abbrev pub slice_at : List ℕ → ℕ → ℕ → Slice

@@ -1,4 +1,5 @@
 -- Laws of the checks of `classify`: the search for the first end at fault, and what no fault says. Assumes nothing.
+use Rattle.std.specs.Prelude.{Ok}
 use mathlib.Core.Bool.{Bool, true, false, not, ◌&&◌, ◌||◌}
 use mathlib.Core.List.{List}
 use mathlib.Core.Logic.{⊎_elim}
@@ -8,7 +9,6 @@ use native.Mathlib.Omega.{arith}
 use lib.Dec.{eqb, ltb}
 use lib.ListN.{length, get_or}
 use borrow.Author.Tests.{le-ltb, ltb-true, ltb-false, eq-eqb, ne_eqb, eqb-true, eqb-false, not-false}
-use Rattle.grid.specs.declared.Checked.TheVariants.{Fine}
 use Rattle.grid.specs.Answers.{◌and_then◌}
 use Rattle.grid.specs.Grid.{first_ones}
 use Rattle.grid.proofs.Cells.{dec_eq, ones_length, ones_at}
@@ -18,6 +18,7 @@ use Rattle.marking_mesh.specs.Faults.{names}
 use Rattle.order.specs.Output.{room_fault}
 use Rattle.order.proofs.Outputs.{room_fine}
 use Rattle.classes.specs.Classes.{begin_of, end_of, bad_end, first_bad_end, ends_fault, count_fault, entry_fault, class_fault, NamedBelow, Ended}
+use Rattle.grid.specs.declared.Reason.TheVariants.{BadRange, MissingName}
 
 and_false : (a b : Bool) → a ≡ true → (a && b) ≡ false → b ≡ false
 and_false a b e h = sym (ap (λ (t : Bool). t && b) e) ∙ h
@@ -45,8 +46,8 @@ module _ (ends : List ℕ) (len : ℕ) where
       pub ends_here : bad_end ends len p ≡ true → p ≡ first_bad_end ends len
       ends_here e = looking_here sound 0 numbers p within w (here true e)
 
-    pub ends_done : length ends ≤ p → p ≡ first_bad_end ends len
-    ends_done h = looking_done sound 0 numbers p (omega (arith, ones_length (length ends) (λ p. p))) w
+    pub ends_done : length ends ≤ p → length ends ≡ first_bad_end ends len
+    ends_done h = sym (ones_length (length ends) (λ p. p)) ∙ looking_done sound 0 numbers p (omega (arith, ones_length (length ends) (λ p. p))) w
 
   -- ---- what no fault of the ends says
 
@@ -58,11 +59,11 @@ module _ (ends : List ℕ) (len : ℕ) where
     pub last : (p : ℕ) → p + 1 ≡ length ends → end_of ends p ≡ len
     pub none : length ends ≡ 0 → len ≡ 0
 
-  module _ (h : ends_fault ends len ≡ Fine) where
+  module _ (h : ends_fault ends len ≡ Ok tt) where
     tests : (ltb (first_bad_end ends len) (length ends) ≡ false) × (stray ≡ false)
     tests =
         let t = ltb (first_bad_end ends len) (length ends) in
-        or_false t stray (passed (t || stray) 15 (first_bad_end ends len) Fine h).0
+        or_false t stray (passed (t || stray) BadRange (first_bad_end ends len) (Ok tt) h).0
 
     good : (p : ℕ) → p < length ends → (ltb (end_of ends p) (begin_of ends p) ≡ false) × (eqb p 65535 ≡ false) × ((eqb (p + 1) (length ends) && not (eqb (end_of ends p) len)) ≡ false)
     good p l =
@@ -127,19 +128,19 @@ module _ (ends : List ℕ) (len : ℕ) where
         (λ e. ap (λ (t : Bool). t && not (eqb len 0)) (eq-eqb (length ends) 0 e) ∙ ap not (eq-eqb len 0 (r.none e)))
         (λ z. ap (λ (t : Bool). t && not (eqb len 0)) (ne_eqb (length ends) 0 z))
 
-    pub fine_ends : ends_fault ends len ≡ Fine
+    pub fine_ends : ends_fault ends len ≡ Ok tt
     fine_ends =
-        sym (fault_not (ltb (first_bad_end ends len) (length ends) || stray) 15 (first_bad_end ends len) Fine
+        sym (fault_not (ltb (first_bad_end ends len) (length ends) || stray) BadRange (first_bad_end ends len) (Ok tt)
         (ap (λ (t : Bool). t || stray) (le-ltb (first_bad_end ends len) (length ends) all_passed) ∙ none_stray))
 
 -- ---- what no fault of the call says
 
-pub class_fine : (entries ends : List ℕ) (count len : ℕ) → class_fault entries ends count len ≡ Fine → NamedBelow entries count × (count ≤ len) × Ended ends (length entries)
+pub class_fine : (entries ends : List ℕ) (count len : ℕ) → class_fault entries ends count len ≡ Ok tt → NamedBelow entries count × (count ≤ len) × Ended ends (length entries)
 class_fine entries ends count len h =
     let a = both_fine (count_fault count) (entry_fault count entries and_then room_fault len count and_then ends_fault ends (length entries)) h in
     let b = both_fine (entry_fault count entries) (room_fault len count and_then ends_fault ends (length entries)) a.1 in
     let c = both_fine (room_fault len count) (ends_fault ends (length entries)) b.1 in (
-      record { names = λ e l. ltb-true (get_or entries e 0) count ((first_fine 4 (λ n. n) (names count) 0 entries).0 b.0 e l) },
+      record { names = λ e l. ltb-true (get_or entries e 0) count ((first_fine MissingName (λ n. n) (names count) 0 entries).0 b.0 e l) },
       room_fine len count c.0,
       (ends_fine ends (length entries) c.1).0,
     )

@@ -1,4 +1,6 @@
 -- What the contract of `classify` says: its numbers, that a refusal leaves what is lent, that two results coincide, and what the classes mean. Assumes nothing.
+use Rattle.grid.specs.declared.Refusal.{Refusal}
+use Rattle.std.specs.Prelude.{Ok, Err}
 use mathlib.Core.Bool.{Bool, true, false, not, ◌&&◌, ◌||◌, true≢false}
 use mathlib.Core.List.{List, [], ◌∷◌}
 use mathlib.Core.Logic.{◌↔◌}
@@ -7,56 +9,45 @@ use Prim.Native.Nat.{ℕ, ◌≤◌, ◌<◌}
 use native.Mathlib.Omega.{arith}
 use lib.Dec.{eqb, ltb}
 use lib.ListN.{length, get_or}
-use Rattle.grid.specs.declared.Checked.TheVariants.{Fine}
-use Rattle.grid.specs.Answers.{answers, refuses, Finds, Gives}
+use Rattle.grid.specs.Answers.{Outcome, Finds, Gives}
 use Rattle.grid.proofs.Cells.{ones_at}
-use Rattle.grid.proofs.Checks.{finds_if, finds_then, finds_first, gives_unless}
+use Rattle.grid.proofs.Checks.{finds_if, finds_then, finds_first, gives_then, refused_same}
 use Rattle.marking_mesh.specs.Faults.{names}
 use Rattle.order.specs.Output.{room_fault}
 use Rattle.order.proofs.Lists.{Which, none, one, more, which}
-use Rattle.order.proofs.Outputs.{finds_room, refused_same}
-use Rattle.classes.specs.declared.Classing.{Classing}
-use Rattle.classes.specs.declared.Classing.TheVariants.{Classed, Refused}
-use Rattle.classes.specs.Classes.{outcome, part_names, no_class, several, class_by, parts_of, class_of, classes_of, first_bad_end, count_fault, entry_fault, ends_fault, class_fault, class_answer, class_buffer, Ended}
+use Rattle.order.proofs.Outputs.{finds_room}
+use Rattle.classes.specs.Classes.{part_names, no_class, several, class_by, parts_of, class_of, classes_of, first_bad_end, count_fault, entry_fault, ends_fault, class_fault, class_answer, class_buffer, Ended}
 use Rattle.classes.proofs.Ending.{Reached, ends_fine, fine_ends}
+use Rattle.grid.specs.declared.Reason.TheVariants.{BadCount, BadRange, MissingName}
 
 -- ---- which numbers the call gives
 
 pub classify_numbers : (entries ends : List ℕ) (count : ℕ) (o : List ℕ) → Gives (1 ∷ 4 ∷ 14 ∷ 15 ∷ []) (class_answer entries ends count o)
-classify_numbers entries ends count o = gives_unless ns (class_fault entries ends count (length o)) (answers tt) all (λ f. tt)
+classify_numbers entries ends count o = gives_then ns (class_fault entries ends count (length o)) (Ok tt) all (λ f. tt)
   where
     ns : List ℕ
     ns = 1 ∷ 4 ∷ 14 ∷ 15 ∷ []
 
     last : Finds ns (ends_fault ends (length entries))
-    last = finds_if ns (ltb (first_bad_end ends (length entries)) (length ends) || (eqb (length ends) 0 && not (eqb (length entries) 0))) 15 (first_bad_end ends (length entries)) Fine tt tt
+    last = finds_if ns (ltb (first_bad_end ends (length entries)) (length ends) || (eqb (length ends) 0 && not (eqb (length entries) 0))) BadRange (first_bad_end ends (length entries)) (Ok tt) tt tt
 
     all : Finds ns (class_fault entries ends count (length o))
     all =
-        finds_then ns (count_fault count) _ (finds_if ns (ltb 65536 count) 1 0 Fine tt tt)
-        (finds_then ns (entry_fault count entries) _ (finds_first ns 4 (λ n. n) (names count) entries tt)
+        finds_then ns (count_fault count) _ (finds_if ns (ltb 65536 count) BadCount 0 (Ok tt) tt tt)
+        (finds_then ns (entry_fault count entries) _ (finds_first ns MissingName (λ n. n) (names count) entries tt)
         (finds_then ns (room_fault (length o) count) _ (finds_room ns (length o) count tt) last))
 
 -- ---- a refusal leaves every lent number
 
-pub classify_refused_same : (entries ends : List ℕ) (count : ℕ) (o : List ℕ) (n k : ℕ) → class_answer entries ends count o ≡ refuses n k → class_buffer entries ends count o ≡ o
-classify_refused_same entries ends count o n k h = refused_same (class_fault entries ends count (length o)) tt n k o _ h
+pub classify_refused_same : (entries ends : List ℕ) (count : ℕ) (o : List ℕ) (f : Refusal) → class_answer entries ends count o ≡ Err f → class_buffer entries ends count o ≡ o
+classify_refused_same entries ends count o f h = refused_same (class_fault entries ends count (length o)) tt f o _ h
 
 -- ---- two results that fit the promise are one
 
-classing_one : (a b : Classing) → outcome a ≡ outcome b → a ≡ b
-classing_one Classed Classed h = refl
-classing_one Classed (Refused g) h = absurd (let z : ◌≡◌ {A = ℕ} 0 1 = cc in omega arith)
-classing_one (Refused f) Classed h = absurd (let z : ◌≡◌ {A = ℕ} 0 1 = cc in omega arith)
-classing_one (Refused f) (Refused g) h =
-    let e : f.number ≡ g.number = cc in
-    let k : f.place ≡ g.place = cc in
-    λ t. Refused (record { number = e t; place = k t })
-
-pub classify_settled : (entries ends : List ℕ) (count : ℕ) (o : List ℕ) (a b : Classing) (m n : List ℕ)
-    → outcome a ≡ class_answer entries ends count o → outcome b ≡ class_answer entries ends count o
+pub classify_settled : (entries ends : List ℕ) (count : ℕ) (o : List ℕ) (a b : Outcome Unit) (m n : List ℕ)
+    → a ≡ class_answer entries ends count o → b ≡ class_answer entries ends count o
     → m ≡ class_buffer entries ends count o → n ≡ class_buffer entries ends count o → (a ≡ b) × (m ≡ n)
-classify_settled entries ends count o a b m n e f g h = (classing_one a b (e ∙ sym f), g ∙ sym h)
+classify_settled entries ends count o a b m n e f g h = ((e ∙ sym f), g ∙ sym h)
 
 -- ---- what the class of a triangle says
 
@@ -111,5 +102,5 @@ module _ (entries ends : List ℕ) (count t : ℕ) (h : t < count) (few : length
   class_several = class_says several (by_several named (length ends) few _ parts)
 
 -- no fault of the ends: none falls back or lies past the list's length, they are at most 65,535, the last is the length, and without parts the list is empty
-pub ends_meaning : (ends : List ℕ) (len : ℕ) → (ends_fault ends len ≡ Fine) ↔ (Ended ends len × Reached ends len)
+pub ends_meaning : (ends : List ℕ) (len : ℕ) → (ends_fault ends len ≡ Ok tt) ↔ (Ended ends len × Reached ends len)
 ends_meaning ends len = ((λ h. ends_fine ends len h), (λ w. fine_ends ends len w.0 w.1))

@@ -6,8 +6,8 @@ use mathlib.Core.Path.{◌≡◌, refl, sym, ap, ◌∙◌}
 use Prim.Native.Nat.{ℕ, ◌+◌, ◌-◌, ◌≤◌, ◌<◌}
 use native.Mathlib.Omega.{arith}
 use lib.Dec.{eqb}
-use lib.ListN.{length, get_or, set, length-set}
-use lib.Seq.{get_or-set_same, get_or-set_other}
+use lib.ListN.{length, get_or, set, take, drop, replicate, length-append, length-set, length-drop, length-replicate, get_or-replicate}
+use lib.Seq.{get_or-set_same, get_or-set_other, get_or-append-add, get_or-drop, length-take-le}
 use borrow.Author.Tests.{eq-eqb, ne_eqb, eqb-true}
 use Rattle.grid.specs.Grid.{first_ones}
 use Rattle.grid.proofs.Cells.{dec_eq, ones_length, ones_at}
@@ -15,7 +15,7 @@ use Rattle.grid.proofs.First.{some_none, some_more, some_below_lem}
 use Rattle.order.specs.Order.{chosen}
 use Rattle.order.specs.Output.{Written, over}
 use Rattle.order.proofs.Lists.{Which, none, one, more, which, chosen_with, chosen_without}
-use Rattle.order.proofs.Outputs.{written_over}
+use Rattle.order.proofs.Outputs.{written_over, append_left}
 use Rattle.classes.specs.Classes.{begin_of, end_of, some_entry, part_names, no_class, several, class_by, parts_of, with_part, NamedBelow, Ended, Classes, Classified}
 
 -- ---- a class and one part more
@@ -115,23 +115,25 @@ module _ (entries : List ℕ) (from part : ℕ) where
 
 -- ---- a class for each triangle
 
+-- one class over the front of the buffer
+pub classes_filled : (n v : ℕ) (o m : List ℕ) → n ≤ length o → m ≡ replicate (length (take n o)) v → Classes n (λ t. v) o (m ++ drop n o)
+classes_filled n v o m h e = record {
+  size = length-append m (drop n o) ∙ (let k = length-drop n o in omega (arith, long));
+  each = λ t l. append_left 0 m (drop n o) t (omega (arith, long)) ∙ ap (λ (xs : List ℕ). get_or xs t 0) e ∙ get_or-replicate (length (take n o)) t v 0 (omega (arith, taken));
+  others = λ t l.
+      ap (λ (k : ℕ). get_or (m ++ drop n o) k 0) (let q : t ≡ length m + (t - n) = omega (arith, long) in q)
+      ∙ get_or-append-add m (drop n o) (t - n) 0
+      ∙ get_or-drop n o (t - n) 0
+      ∙ ap (λ (k : ℕ). get_or o k 0) (let q : n + (t - n) ≡ t = omega arith in q);
+}
+  where
+    taken : length (take n o) ≡ n
+    taken = length-take-le n o h
+
+    long : length m ≡ n
+    long = ap (λ (xs : List ℕ). length xs) e ∙ length-replicate (length (take n o)) v ∙ taken
+
 module _ (rule : ℕ → ℕ) where
-  pub classes_none : (o : List ℕ) → Classes 0 rule o o
-  classes_none o = record { size = refl; each = λ t h. absurd (omega arith); others = λ t h. refl }
-
-  pub classes_more : (n : ℕ) (o m : List ℕ) → n < length o → Classes n rule o m → Classes (n + 1) rule o (set m n (rule n))
-  classes_more n o m h w = record {
-    size = length-set m n (rule n) ∙ w.size;
-    each = λ t l.
-        dec_eq t n
-        (λ e. ap (λ (k : ℕ). get_or (set m n (rule n)) k 0) e ∙ get_or-set_same m n (rule n) 0 (omega (arith, w.size)) ∙ ap rule (sym e))
-        (λ z. get_or-set_other m n t (rule n) 0 z ∙ w.each t (below t l z));
-    others = λ t l. get_or-set_other m n t (rule n) 0 (λ e. omega arith) ∙ w.others t (omega arith);
-  }
-    where
-      below : (t : ℕ) → t < n + 1 → (t ≡ n → ⊥) → t < n
-      below t l z = omega arith
-
   -- they stand over the front of the buffer
   pub classes_over : (n : ℕ) (o m : List ℕ) → n ≤ length o → Classes n rule o m → m ≡ over (first_ones n rule) o
   classes_over n o m h w = written_over 0 (first_ones n rule) o m (omega (arith, ones_length n rule)) there

@@ -1,22 +1,13 @@
 -- 01, List, classes, planes, boxes: the class of each triangle, from the entries of all parts, one part after the other, and the end of each part. Definitions only.
-use Rattle.std.specs.Prelude.{Bool, not, cond, ◌&&◌, ◌||◌, List, [], ◌∷◌, ◌≡◌, ℕ, zero, suc, ◌+◌, ◌-◌, ◌≤◌, ◌<◌, eqb, ltb, length, get_or}
-use Rattle.grid.specs.declared.Checked.{Checked}
-use Rattle.grid.specs.declared.Checked.TheVariants.{Fine}
-use Rattle.grid.specs.Answers.{Outcome, answers, refuses, fault_if, ◌and_then◌, unless, lent_after}
+use Rattle.std.specs.Prelude.{Bool, not, cond, ◌&&◌, ◌||◌, List, [], ◌∷◌, ◌≡◌, ℕ, zero, suc, ◌+◌, ◌-◌, ◌≤◌, ◌<◌, eqb, ltb, length, get_or, Ok}
+use Rattle.grid.specs.Answers.{Outcome, fault_if, ◌and_then◌, lent_after, Checked}
 use Rattle.grid.specs.First.{first_not, some_below}
 use Rattle.grid.specs.Grid.{first_ones}
 use Rattle.grid.specs.Checks.{first_fault}
-use Rattle.grid.specs.Refusals.{BAD_COUNT, MISSING_NAME, BAD_RANGE}
 use Rattle.marking_mesh.specs.Faults.{names}
 use Rattle.order.specs.Order.{chosen}
 use Rattle.order.specs.Output.{room_fault, over}
-use Rattle.classes.specs.declared.Classing.{Classing}
-use Rattle.classes.specs.declared.Classing.TheVariants.{Classed, Refused}
-
--- 01's number and values for each case of `Classing`: an answer has no value but its classes
-abbrev pub outcome : Classing → Outcome Unit
-outcome Classed = answers tt
-outcome (Refused f) = refuses f.number f.place
+use Rattle.grid.specs.declared.Reason.TheVariants.{BadCount, MissingName, BadRange}
 
 -- ---- parts
 
@@ -65,11 +56,11 @@ classes_of entries ends count = first_ones count (class_of entries ends)
 
 -- "1: .. more than 65,536 of either (in classes: the triangle count)"
 abbrev pub count_fault : ℕ → Checked
-count_fault count = fault_if (ltb 65536 count) BAD_COUNT 0 Fine
+count_fault count = fault_if (ltb 65536 count) BadCount 0 (Ok tt)
 
 -- "4: .. in classes, an entry names a missing triangle"; the place is the entry
 abbrev pub entry_fault : ℕ → List ℕ → Checked
-entry_fault count entries = first_fault MISSING_NAME (λ n. n) (names count) entries
+entry_fault count entries = first_fault MissingName (λ n. n) (names count) entries
 
 -- "15: part ends fall back, do not end at the list's length (no parts: list not empty), or number over 65,535"; the place is the part end: of a fall the end that falls, of a stray last end the last, of too many the one past 65,535
 abbrev pub bad_end : List ℕ → ℕ → ℕ → Bool
@@ -81,14 +72,14 @@ first_bad_end ends len = first_not (λ p. not (bad_end ends len p)) (first_ones 
 
 abbrev pub ends_fault : List ℕ → ℕ → Checked
 ends_fault ends len =
-    fault_if (ltb (first_bad_end ends len) (length ends) || (eqb (length ends) 0 && not (eqb len 0))) BAD_RANGE (first_bad_end ends len) Fine
+    fault_if (ltb (first_bad_end ends len) (length ends) || (eqb (length ends) 0 && not (eqb len 0))) BadRange (first_bad_end ends len) (Ok tt)
 
 -- the whole call: 1, 4, 14 and 15, of an output of length len
 abbrev pub class_fault : List ℕ → List ℕ → ℕ → ℕ → Checked
 class_fault entries ends count len = count_fault count and_then entry_fault count entries and_then room_fault len count and_then ends_fault ends (length entries)
 
 abbrev pub class_answer : List ℕ → List ℕ → ℕ → List ℕ → Outcome Unit
-class_answer entries ends count o = unless (class_fault entries ends count (length o)) (answers tt)
+class_answer entries ends count o = class_fault entries ends count (length o) and_then Ok tt
 
 abbrev pub class_buffer : List ℕ → List ℕ → ℕ → List ℕ → List ℕ
 class_buffer entries ends count o = lent_after (class_fault entries ends count (length o)) o (over (classes_of entries ends count) o)

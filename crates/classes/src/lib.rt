@@ -2,21 +2,14 @@
 #![tactic(auto)]
 
 ghost use Rattle.std.specs.Prelude.{◌≡◌, ◌≤◌, ◌<◌, length};
-ghost use Rattle.classes.specs.Classes.{begin_of, bad_end, first_bad_end, ends_fault, count_fault, entry_fault, no_class, class_of, with_part, class_fault, NamedBelow, Ended, Classes, Classified, outcome, class_answer, class_buffer};
+ghost use Rattle.classes.specs.Classes.{begin_of, bad_end, first_bad_end, ends_fault, count_fault, entry_fault, no_class, class_of, with_part, class_fault, NamedBelow, Ended, Classes, Classified, class_answer, class_buffer};
 
-use grid::{Checked, Refusal};
+use grid::{Reason, Refusal};
 
 // The class of a triangle that no part names, and of one that several name.
 pub const NO_CLASS: u32 = 4294967294;
 
 pub const SEVERAL: u32 = 4294967295;
-
-// What classify answers; the classes are in the output.
-#[derive(Clone, Copy)]
-pub enum Classing {
-    Classed,
-    Refused(Refusal),
-}
 
 // Where part p begins: at the end of the part before it.
 fn begin_of(ends: &[u32], p: usize) -> u32
@@ -44,70 +37,61 @@ fn bad_end(ends: &[u32], p: usize, len: usize) -> bool
 fn first_bad_end(ends: &[u32], len: usize) -> usize
     ensures { result ≡ first_bad_end ends.now len }
 {
-    let mut p = 0usize;
-    while p < ends.len() {
+    for p in 0..ends.len() {
         if bad_end(ends, p, len) {
             return p;
         }
-        p += 1;
     }
-    p
+    ends.len()
 }
 
 // Refusal 15 of the ends of parts of a list of this length.
-fn ends_fault(ends: &[u32], len: usize) -> Checked
+fn ends_fault(ends: &[u32], len: usize) -> Result<(), Refusal>
     ensures { result ≡ ends_fault ends.now len }
 {
     let p = first_bad_end(ends, len);
     if (p < ends.len()) | ((ends.len() == 0) & (len != 0)) {
-        return grid::fault(grid::BAD_RANGE, p);
+        return Err(Reason::BadRange.at(p));
     }
-    Checked::Fine
+    Ok(())
 }
 
 // Refusal 1 of a number of triangles.
-fn count_fault(count: usize) -> Checked
+fn count_fault(count: usize) -> Result<(), Refusal>
     ensures { result ≡ count_fault count }
 {
     if 65536 < count {
-        return grid::fault(grid::BAD_COUNT, 0);
+        return Err(Reason::BadCount.at(0));
     }
-    Checked::Fine
+    Ok(())
 }
 
 // Refusal 4 of entries that name one of `count` triangles.
-fn entry_fault(entries: &[u32], count: usize) -> Checked
+fn entry_fault(entries: &[u32], count: usize) -> Result<(), Refusal>
     ensures { result ≡ entry_fault count entries.now }
 {
     let n = marking_checks::first_missing(entries, count);
     if n < entries.len() {
-        return grid::fault(grid::MISSING_NAME, n);
+        return Err(Reason::MissingName.at(n));
     }
-    Checked::Fine
+    Ok(())
 }
 
 // Refusals 1, 4, 14 and 15, of an output of this length.
-fn class_fault(entries: &[u32], ends: &[u32], count: usize, len: usize) -> Checked
+fn class_fault(entries: &[u32], ends: &[u32], count: usize, len: usize) -> Result<(), Refusal>
     ensures { result ≡ class_fault entries.now ends.now count len }
 {
-    let of_count = count_fault(count);
-    let of_entries = entry_fault(entries, count);
-    let room = order::room_fault(len, count as u64);
-    let of_ends = ends_fault(ends, entries.len());
-    let from_14 = grid::and_then(room, of_ends);
-    let from_4 = grid::and_then(of_entries, from_14);
-    grid::and_then(of_count, from_4)
+    count_fault(count)?;
+    entry_fault(entries, count)?;
+    order::room_fault(len, count as u64)?;
+    ends_fault(ends, entries.len())
 }
 
 fn clear(classes: &mut [u32], count: usize)
     requires { count ≤ length classes.old }
     ensures { Classes count (λ t. no_class) classes.old classes.new }
 {
-    let mut t = 0usize;
-    while t < count {
-        classes[t] = NO_CLASS;
-        t += 1;
-    }
+    classes[..count].fill(NO_CLASS);
 }
 
 // A triangle's class once one part more names it.
@@ -129,12 +113,9 @@ fn classify_part(classes: &mut [u32], entries: &[u32], from: usize, to: usize, p
     requires named_below { NamedBelow entries.now (length classes.old) }
     ensures { Classified entries.now from to part classes.old classes.new }
 {
-    let mut e = from;
-    while e < to {
+    for e in from..to {
         let t = entries[e] as usize;
-        let v = with_part(classes[t], part);
-        classes[t] = v;
-        e += 1;
+        classes[t] = with_part(classes[t], part);
     }
 }
 
@@ -144,27 +125,26 @@ fn classify_parts(classes: &mut [u32], entries: &[u32], ends: &[u32], count: usi
     requires classes { Classes count (λ t. no_class) classes.old classes.old }
     ensures { Classes count (class_of entries.now ends.now) classes.old classes.new }
 {
-    let mut p = 0usize;
-    while p < ends.len() {
+    for p in 0..ends.len() {
         let from = begin_of(ends, p) as usize;
         let to = ends[p] as usize;
         classify_part(classes, entries, from, to, p as u32);
-        p += 1;
     }
 }
 
 // Writes the class of each of `count` triangles, from the entries of all parts, one part after the
 // other, and the end of each part; or refuses and writes nothing.
-pub fn classify(entries: &[u32], ends: &[u32], count: usize, classes: &mut [u32]) -> Classing
-    ensures answer { outcome result ≡ class_answer entries.now ends.now count classes.old }
+pub fn classify(
+    entries: &[u32],
+    ends: &[u32],
+    count: usize,
+    classes: &mut [u32],
+) -> Result<(), Refusal>
+    ensures answer { result ≡ class_answer entries.now ends.now count classes.old }
     ensures classes_after { classes.new ≡ class_buffer entries.now ends.now count classes.old }
 {
-    match class_fault(entries, ends, count, classes.len()) {
-        Checked::Fault(f) => Classing::Refused(f),
-        Checked::Fine => {
-            clear(classes, count);
-            classify_parts(classes, entries, ends, count);
-            Classing::Classed
-        }
-    }
+    class_fault(entries, ends, count, classes.len())?;
+    clear(classes, count);
+    classify_parts(classes, entries, ends, count);
+    Ok(())
 }

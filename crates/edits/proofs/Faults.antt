@@ -1,4 +1,5 @@
 -- What an edit's checks leave: a map of labels 6, 7 and 8, a cell of it, and the right kind of cell. Assumes nothing.
+use Rattle.std.specs.Prelude.{Ok}
 use mathlib.Core.Bool.{Bool, true, false, not}
 use mathlib.Core.Logic.{◌⊎◌, inl, inr, ⊎_elim, ◌↔◌}
 use mathlib.Core.Path.{◌≡◌, sym, ap, subst}
@@ -9,7 +10,6 @@ use lib.Dec.{eqb}
 use borrow.Author.Tests.{eqb-true, eqb-false, eq-eqb, ne_eqb, not-false}
 use Rattle.grid.specs.declared.Axes.{Axes}
 use Rattle.grid.specs.declared.Cell.{Cell}
-use Rattle.grid.specs.declared.Checked.TheVariants.{Fine}
 use Rattle.grid.specs.Answers.{◌and_then◌, fault_if, Finds}
 use Rattle.grid.specs.Checks.{takes, map_fault}
 use Rattle.grid.specs.Grid.{num, InGrid, at, Sheet}
@@ -18,6 +18,7 @@ use Rattle.grid.proofs.Checks.{both_fine, passed, taken_means, map_fine, finds_m
 use Rattle.edits_checks.proofs.Laws.{in_grid_lem}
 use Rattle.edits.specs.Edits.{Edit, opening, closing, map_labels, in_grid, wrong_kind, cell_fault, edit_fault}
 use Rattle.edits_settle.specs.Closing.{Map}
+use Rattle.grid.specs.declared.Reason.TheVariants.{WrongKind, OutOfRange}
 
 takes_three : (v : ℕ) → takes map_labels v ≡ true → (v ≡ 6) ⊎ ((v ≡ 7) ⊎ (v ≡ 8))
 takes_three v h = ⊎_elim (λ e. of e.0 e.1) (λ e. of e.0 e.1) (taken_means map_labels v h)
@@ -32,16 +33,16 @@ pub record Sound (r : Axes) (l : List ℕ) (c : Cell) (surface : Bool) : Type 0 
   pub within : InGrid r c
   pub kind : wrong_kind surface (at r l c) ≡ false
 
-pub edit_sound : (r : Axes) (l : List ℕ) (c : Cell) (surface : Bool) → (map_fault map_labels r l and_then cell_fault r l c surface) ≡ Fine → Sound r l c surface
+pub edit_sound : (r : Axes) (l : List ℕ) (c : Cell) (surface : Bool) → (map_fault map_labels r l and_then cell_fault r l c surface) ≡ Ok tt → Sound r l c surface
 edit_sound r l c surface h =
     let e = both_fine (map_fault map_labels r l) (cell_fault r l c surface) h in
     let m = map_fine map_labels r l e.0 in
-    let f = passed (not (in_grid r c)) 12 0 (fault_if (wrong_kind surface (at r l c)) 13 0 Fine) e.1 in
+    let f = passed (not (in_grid r c)) OutOfRange 0 (fault_if (wrong_kind surface (at r l c)) WrongKind 0 (Ok tt)) e.1 in
     record {
       sheet = m.0;
       map = λ d g. takes_three (at r l d) (m.1 (num r d) (subst (λ (n : ℕ). num r d < n) (sym m.0.size) (num_lt r d g)));
       within = (in_grid_lem r c).0 (not-false (in_grid r c) f.0);
-      kind = (passed (wrong_kind surface (at r l c)) 13 0 Fine f.1).0;
+      kind = (passed (wrong_kind surface (at r l c)) WrongKind 0 (Ok tt) f.1).0;
     }
 
 -- 13 exactly for an opening of a cell that is no surface, and for a closing of one that is
@@ -59,7 +60,7 @@ edit_finds r l e = of e
     ns = 8 ∷ 9 ∷ 11 ∷ 12 ∷ 13 ∷ []
 
     cell : (c : Cell) (surface : Bool) → Finds ns (cell_fault r l c surface)
-    cell c surface = finds_if ns (not (in_grid r c)) 12 0 (fault_if (wrong_kind surface (at r l c)) 13 0 Fine) tt (finds_if ns (wrong_kind surface (at r l c)) 13 0 Fine tt tt)
+    cell c surface = finds_if ns (not (in_grid r c)) OutOfRange 0 (fault_if (wrong_kind surface (at r l c)) WrongKind 0 (Ok tt)) tt (finds_if ns (wrong_kind surface (at r l c)) WrongKind 0 (Ok tt) tt tt)
 
     of : (e : Edit) → Finds ns (edit_fault r l e)
     of (opening c) = finds_then ns (map_fault map_labels r l) (cell_fault r l c true) (finds_map ns map_labels r l tt tt tt) (cell c true)

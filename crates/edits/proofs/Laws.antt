@@ -1,4 +1,5 @@
 -- What the contracts of `open_cell` and `close_cell` say: their numbers, that two results coincide, which cells an edit changes, and demand 3 over any list of edits. Assumes nothing.
+use Rattle.std.specs.Prelude.{Ok, Err}
 use mathlib.Core.Bool.{Bool, true, false, cond}
 use mathlib.Core.Logic.{◌⊎◌, inl, inr, ⊎_elim}
 use mathlib.Core.Path.{◌≡◌, refl, sym, ap, ◌∙◌}
@@ -10,9 +11,8 @@ use lib.ListN.{length, get_or, length-map}
 use borrow.Author.Tests.{ne_eqb}
 use Rattle.grid.specs.declared.Axes.{Axes}
 use Rattle.grid.specs.declared.Cell.{Cell}
-use Rattle.grid.specs.declared.Checked.{Checked}
-use Rattle.grid.specs.declared.Checked.TheVariants.{Fine, Fault}
-use Rattle.grid.specs.Answers.{Outcome, answers, refuses, Ends, Gives}
+use Rattle.grid.specs.declared.Refusal.{Refusal}
+use Rattle.grid.specs.Answers.{Outcome, Ends, Gives, Checked}
 use Rattle.grid.specs.Checks.{takes}
 use Rattle.grid.specs.Flood.{Floods, surface, outside, inside, Flooded}
 use Rattle.grid.specs.Grid.{cells, num, InGrid, at, Sheet}
@@ -25,9 +25,7 @@ use Rattle.fill.specs.declared.FillCounts.{FillCounts}
 use Rattle.fill.specs.declared.Mode.TheVariants.{Flood}
 use Rattle.fill.specs.Modes.{marks, fill_fault, Means}
 use Rattle.grid.proofs.Passes.{map_at}
-use Rattle.edits.specs.declared.Editing.{Editing}
-use Rattle.edits.specs.declared.Editing.TheVariants.{Changed, Refused}
-use Rattle.edits.specs.Edits.{Edit, opening, closing, outcome, edit_fault, Opens, aired, unreached, alone, other, Closes, lid, sealed, stays, Becomes, changed, Edited}
+use Rattle.edits.specs.Edits.{Edit, opening, closing, edit_fault, Opens, aired, unreached, alone, other, Closes, lid, sealed, stays, Becomes, changed, Edited}
 use Rattle.edits.specs.History.{Call, After, none, next, IsFill, surfaces, IsFresh}
 use Rattle.edits.proofs.Faults.{edit_sound, edit_finds}
 use Rattle.edits.proofs.Fresh.{aired_more}
@@ -39,8 +37,8 @@ pub edit_numbers : (r : Axes) (e : Edit) (l m : List ℕ) (o : Outcome ℕ) → 
 edit_numbers r e l m o k = ends_gives (8 ∷ 9 ∷ 11 ∷ 12 ∷ 13 ∷ []) (edit_fault r l e) l (Edited r l e) o m (edit_finds r l e) k
 
 -- a refusal leaves every label
-pub refused_same : (r : Axes) (e : Edit) (l m : List ℕ) (n place : ℕ) → Call r e l (refuses n place) m → m ≡ l
-refused_same r e l m n place k = ends_same (edit_fault r l e) l (Edited r l e) n place m k
+pub refused_same : (r : Axes) (e : Edit) (l m : List ℕ) (f : Refusal) → Call r e l (Err f) m → m ≡ l
+refused_same r e l m f k = ends_same (edit_fault r l e) l (Edited r l e) f m k
 
 -- ---- two results that fit coincide
 
@@ -82,26 +80,15 @@ edited_one r l e m n a b size p q =
     let same = by_cell r a b (p.size ∙ size) (q.size ∙ size) (λ d h. becomes_one r l e d (at r a d) (at r b d) (p.each d h) (q.each d h)) in
     (p.counted ∙ ap (changed l) same ∙ sym q.counted, same)
 
-outcome_one : (a b : Editing) → outcome a ≡ outcome b → a ≡ b
-outcome_one (Changed m) (Changed n) h =
-    let e : m ≡ n = cc in
-    ap Changed e
-outcome_one (Changed m) (Refused g) h = absurd (let z : ◌≡◌ {A = ℕ} 0 1 = cc in omega arith)
-outcome_one (Refused f) (Changed n) h = absurd (let z : ◌≡◌ {A = ℕ} 0 1 = cc in omega arith)
-outcome_one (Refused f) (Refused g) h =
-    let e : f.number ≡ g.number = cc in
-    let k : f.place ≡ g.place = cc in
-    λ t. Refused (record { number = e t; place = k t })
-
 -- the map is as long as its axes say, where an edit is not refused
-edit_size : (r : Axes) (l : List ℕ) (e : Edit) → edit_fault r l e ≡ Fine → length l ≡ cells r
+edit_size : (r : Axes) (l : List ℕ) (e : Edit) → edit_fault r l e ≡ Ok tt → length l ≡ cells r
 edit_size r l (opening c) h = (edit_sound r l c true h).sheet.size
 edit_size r l (closing c) h = (edit_sound r l c false h).sheet.size
 
-pub settled : (r : Axes) (e : Edit) (l : List ℕ) (f g : Editing) (a b : List ℕ) → Call r e l (outcome f) a → Call r e l (outcome g) b → (f ≡ g) × (a ≡ b)
+pub settled : (r : Axes) (e : Edit) (l : List ℕ) (f g : Outcome ℕ) (a b : List ℕ) → Call r e l f a → Call r e l g b → (f ≡ g) × (a ≡ b)
 settled r e l f g a b p q =
-    let u = ends_one (edit_fault r l e) l (Edited r l e) (λ m n x y h v w. edited_one r l e m n x y (edit_size r l e h) v w) (outcome f) (outcome g) a b p q in
-    (outcome_one f g u.0, u.1)
+    let u = ends_one (edit_fault r l e) l (Edited r l e) (λ m n x y h v w. edited_one r l e m n x y (edit_size r l e h) v w) f g a b p q in
+    (u.0, u.1)
 
 -- ---- the frame: "An opening changes only its cell and Inside cells joined to it; a closing only its cell and Outside cells that were joined to it"
 
@@ -141,11 +128,11 @@ own r l f k = reflooded r l f f refl (λ c h q. (surface_means r l c (at r f c) 
 is_fill : (r : Axes) (l : List ℕ) → IsFill r l → Sheet r l × Flooded r l l
 is_fill r l (s, n, k) = of (fill_fault r s) refl k
   where
-    of : (f : Checked) → f ≡ fill_fault r s → Ends f s (Means Flood r s) (answers n) l → Sheet r l × Flooded r l l
-    of Fine q k = (sheet_kept r s l k.0.size (map_fine marks r s (sym q)).0, own r s l k.0)
-    of (Fault f) q k = absurd (let z : ◌≡◌ {A = ℕ} 0 1 = clash k.0 in omega arith)
+    of : (f : Checked) → f ≡ fill_fault r s → Ends f s (Means Flood r s) (Ok n) l → Sheet r l × Flooded r l l
+    of (Ok u) q k = (sheet_kept r s l k.0.size (map_fine marks r s (sym q)).0, own r s l k.0)
+    of (Err f) q k = absurd (let z : ◌≡◌ {A = ℕ} 0 1 = clash k.0 in omega arith)
       where
-        clash : answers n ≡ refuses f.number f.place → ◌≡◌ {A = ℕ} 0 1
+        clash : Ok n ≡ Err f → ◌≡◌ {A = ℕ} 0 1
         clash h = cc
 
 -- after any list of edits the map still is the fill of its own surface cells
@@ -160,9 +147,9 @@ after_flooded r start (e ∷ es) l s (next {l = k} _ o a c) =
     call_size o c = of (edit_fault r k e) o c
       where
         of : (f : Checked) (o : Outcome ℕ) → Ends f k (Edited r k e) o l → length l ≡ length k
-        of (Fault f) o q = ap length q.1
-        of Fine (answers n) q = q.size
-        of Fine (refuses n p) q = absurd q
+        of (Err f) o q = ap length q.1
+        of (Ok u) (Ok n) q = q.size
+        of (Ok u) (Err g) q = absurd q
 
 -- and its fresh fill is the map itself
 module _ (r : Axes) (l : List ℕ) (s : Sheet r l) (fl : Flooded r l l) where
@@ -178,7 +165,7 @@ module _ (r : Axes) (l : List ℕ) (s : Sheet r l) (fl : Flooded r l l) where
   size : length (surfaces l) ≡ length l
   size = length-map l mark
 
-  taken : fill_fault r (surfaces l) ≡ Fine
+  taken : fill_fault r (surfaces l) ≡ Ok tt
   taken = fine_map marks r (surfaces l) (sheet_kept r l (surfaces l) size s) (λ n h. ap (takes marks) (mark_at_lem n (omega (arith, size))) ∙ either (eqb (get_or l n 0) 8))
     where
       either : (b : Bool) → takes marks (cond b 8 0) ≡ true
@@ -194,10 +181,10 @@ module _ (r : Axes) (l : List ℕ) (s : Sheet r l) (fl : Flooded r l l) where
   own_fresh : IsFresh r l
   own_fresh o f k = of (fill_fault r (surfaces l)) o taken k
     where
-      of : (g : Checked) (o : Outcome FillCounts) → g ≡ Fine → Ends g (surfaces l) (Means Flood r (surfaces l)) o f → (n : FillCounts) × (o ≡ answers n) × (f ≡ l)
-      of Fine (answers n) q k = (n, refl, flooded_one r (surfaces l) f l (size ∙ s.size) k.0 same)
-      of Fine (refuses n p) q k = absurd k
-      of (Fault g) o q k = absurd (no_fault g q)
+      of : (g : Checked) (o : Outcome FillCounts) → g ≡ Ok tt → Ends g (surfaces l) (Means Flood r (surfaces l)) o f → (n : FillCounts) × (o ≡ Ok n) × (f ≡ l)
+      of (Ok u) (Ok n) q k = (n, refl, flooded_one r (surfaces l) f l (size ∙ s.size) k.0 same)
+      of (Ok u) (Err g) q k = absurd k
+      of (Err g) o q k = absurd (no_fault g q)
 
 -- "After any sequence of openings and closings of such a map, refused ones included, every label equals a fresh fill of the surface cells as they then stand"
 pub demand_3 : (r : Axes) (start : List ℕ) (es : List Edit) (l : List ℕ) → IsFill r start → After r start es l → IsFresh r l

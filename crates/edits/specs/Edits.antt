@@ -2,21 +2,13 @@
 use Rattle.std.specs.Prelude.{true, false, cond, ◌⊎◌, ◌≡◌, List, [], ◌∷◌, ℕ, ◌+◌, eqb, length, set}
 use Rattle.grid.specs.declared.Axes.{Axes}
 use Rattle.grid.specs.declared.Cell.{Cell}
-use Rattle.grid.specs.declared.Checked.{Checked}
-use Rattle.grid.specs.Answers.{Outcome, answers, refuses, ◌and_then◌}
+use Rattle.grid.specs.Answers.{◌and_then◌, Checked}
 use Rattle.grid.specs.Checks.{map_fault}
 use Rattle.grid.specs.Grid.{InGrid, num, at, Face, Border}
 use Rattle.grid.specs.Paths.{Through}
 use Rattle.grid.specs.Labels.{OUTSIDE, INSIDE, SURFACE}
-use Rattle.edits.specs.declared.Editing.{Editing}
-use Rattle.edits.specs.declared.Editing.TheVariants.{Changed, Refused}
 pub use Rattle.edits_checks.specs.Checks.{map_labels, in_grid, wrong_kind, cell_fault}
 pub use Rattle.edits_settle.specs.Closing.{HasWay}
-
--- 01's number and values for each case of `Editing`: "Each reports how many labels changed"
-abbrev pub outcome : Editing → Outcome ℕ
-outcome (Changed n) = answers n
-outcome (Refused f) = refuses f.number f.place
 
 pub data Edit : Type 0 where
   opening : Cell → Edit

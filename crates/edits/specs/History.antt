@@ -1,7 +1,7 @@
 -- Demand 3: a map after any sequence of openings and closings. Definitions only.
-use Rattle.std.specs.Prelude.{cond, ◌≡◌, List, [], ◌∷◌, map, ℕ, eqb}
+use Rattle.std.specs.Prelude.{cond, ◌≡◌, List, [], ◌∷◌, map, ℕ, eqb, Ok}
 use Rattle.grid.specs.declared.Axes.{Axes}
-use Rattle.grid.specs.Answers.{Outcome, answers, Ends}
+use Rattle.grid.specs.Answers.{Outcome, Ends}
 use Rattle.grid.specs.Labels.{UNDEFINED, SURFACE}
 use Rattle.fill.specs.declared.FillCounts.{FillCounts}
 use Rattle.fill.specs.declared.Mode.TheVariants.{Flood}
@@ -19,7 +19,7 @@ pub data After (r : Axes) (start : List ℕ) : List Edit → List ℕ → Type 0
 
 -- "such a map": one that `fill` promises without cavities
 abbrev pub IsFill : Axes → List ℕ → Type 0
-IsFill r l = (marks : List ℕ) × (n : FillCounts) × Ends (fill_fault r marks) marks (Means Flood r marks) (answers n) l
+IsFill r l = (marks : List ℕ) × (n : FillCounts) × Ends (fill_fault r marks) marks (Means Flood r marks) (Ok n) l
 
 -- "the surface cells as they then stand", as marks
 abbrev pub surfaces : List ℕ → List ℕ
@@ -27,4 +27,4 @@ surfaces l = map (λ v. cond (eqb v SURFACE) SURFACE UNDEFINED) l
 
 -- "every label equals a fresh fill": whatever `fill` promises of these marks without cavities, it is this map, and it is no refusal
 abbrev pub IsFresh : Axes → List ℕ → Type 0
-IsFresh r l = (o : Outcome FillCounts) (f : List ℕ) → Ends (fill_fault r (surfaces l)) (surfaces l) (Means Flood r (surfaces l)) o f → (n : FillCounts) × (o ≡ answers n) × (f ≡ l)
+IsFresh r l = (o : Outcome FillCounts) (f : List ℕ) → Ends (fill_fault r (surfaces l)) (surfaces l) (Means Flood r (surfaces l)) o f → (n : FillCounts) × (o ≡ Ok n) × (f ≡ l)

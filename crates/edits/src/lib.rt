@@ -7,16 +7,9 @@ ghost use Rattle.grid.specs.Flood.{Flooded};
 ghost use Rattle.grid.specs.Grid.{num, InGrid, at, Sheet};
 ghost use Rattle.grid.specs.Labels.{SURFACE};
 ghost use Rattle.edits_settle.specs.Closing.{Map};
-ghost use Rattle.edits.specs.Edits.{opening, closing, outcome, edit_fault, MeetsAir, Edited};
+ghost use Rattle.edits.specs.Edits.{opening, closing, edit_fault, MeetsAir, Edited};
 
-use grid::{Axes, Cell, Checked, INSIDE, OUTSIDE, Refusal, SURFACE};
-
-// What an edit answers: how many labels changed; the edit itself is in the labels.
-#[derive(Clone, Copy)]
-pub enum Editing {
-    Changed(usize),
-    Refused(Refusal),
-}
+use grid::{Axes, Cell, INSIDE, OUTSIDE, Refusal, SURFACE};
 
 // ---- opening
 
@@ -76,24 +69,20 @@ fn close_open(l: &mut [u8], r: Axes, c: Cell) -> usize
 
 // ---- the calls
 
-// Opens a surface cell, or refuses and writes nothing.
-pub fn open_cell(labels: &mut [u8], r: Axes, c: Cell) -> Editing
-    ensures ends { Ends (edit_fault r labels.old (opening c)) labels.old (Edited r labels.old (opening c)) (outcome result) labels.new }
+// Opens a surface cell and answers how many labels changed, or refuses and writes nothing.
+pub fn open_cell(labels: &mut [u8], r: Axes, c: Cell) -> Result<usize, Refusal>
+    ensures ends { Ends (edit_fault r labels.old (opening c)) labels.old (Edited r labels.old (opening c)) result labels.new }
     ensures flooded { Flooded r labels.old labels.old → Flooded r labels.new labels.new }
 {
-    match edits_checks::edit_fault(labels, r, c, true) {
-        Checked::Fault(f) => Editing::Refused(f),
-        Checked::Fine => Editing::Changed(open_surface(labels, r, c)),
-    }
+    edits_checks::edit_fault(labels, r, c, true)?;
+    Ok(open_surface(labels, r, c))
 }
 
-// Closes a cell that is no surface, or refuses and writes nothing.
-pub fn close_cell(labels: &mut [u8], r: Axes, c: Cell) -> Editing
-    ensures ends { Ends (edit_fault r labels.old (closing c)) labels.old (Edited r labels.old (closing c)) (outcome result) labels.new }
+// Closes a cell that is no surface and answers how many labels changed, or refuses and writes nothing.
+pub fn close_cell(labels: &mut [u8], r: Axes, c: Cell) -> Result<usize, Refusal>
+    ensures ends { Ends (edit_fault r labels.old (closing c)) labels.old (Edited r labels.old (closing c)) result labels.new }
     ensures flooded { Flooded r labels.old labels.old → Flooded r labels.new labels.new }
 {
-    match edits_checks::edit_fault(labels, r, c, false) {
-        Checked::Fault(f) => Editing::Refused(f),
-        Checked::Fine => Editing::Changed(close_open(labels, r, c)),
-    }
+    edits_checks::edit_fault(labels, r, c, false)?;
+    Ok(close_open(labels, r, c))
 }

@@ -1,15 +1,13 @@
 -- 01, Edits: the refusals of an opening or a closing. Definitions only.
-use Rattle.std.specs.Prelude.{Bool, true, false, not, ◌&&◌, List, ℕ, eqb, ltb}
+use Rattle.std.specs.Prelude.{Bool, true, false, not, ◌&&◌, List, ℕ, eqb, ltb, Ok}
 use Rattle.grid.specs.declared.Axes.{Axes}
 use Rattle.grid.specs.declared.Cell.{Cell}
-use Rattle.grid.specs.declared.Checked.{Checked}
-use Rattle.grid.specs.declared.Checked.TheVariants.{Fine}
 use Rattle.grid.specs.declared.LabelSet.{LabelSet}
-use Rattle.grid.specs.Answers.{fault_if}
+use Rattle.grid.specs.Answers.{fault_if, Checked}
 use Rattle.grid.specs.Checks.{label_ranges}
 use Rattle.grid.specs.Grid.{at}
 use Rattle.grid.specs.Labels.{OUTSIDE, SURFACE}
-use Rattle.grid.specs.Refusals.{OUT_OF_RANGE, WRONG_KIND}
+use Rattle.grid.specs.declared.Reason.TheVariants.{OutOfRange, WrongKind}
 
 -- "Labels 6, 7, 8 only, else 11", after 8 and 9
 abbrev pub map_labels : LabelSet
@@ -25,4 +23,4 @@ wrong_kind true label = not (eqb label SURFACE)
 wrong_kind false label = eqb label SURFACE
 
 abbrev pub cell_fault : Axes → List ℕ → Cell → Bool → Checked
-cell_fault r l c surface = fault_if (not (in_grid r c)) OUT_OF_RANGE 0 (fault_if (wrong_kind surface (at r l c)) WRONG_KIND 0 Fine)
+cell_fault r l c surface = fault_if (not (in_grid r c)) OutOfRange 0 (fault_if (wrong_kind surface (at r l c)) WrongKind 0 (Ok tt))

@@ -7,7 +7,7 @@ ghost use Rattle.grid.specs.Checks.{map_fault};
 ghost use Rattle.grid.specs.Grid.{Sheet};
 ghost use Rattle.edits_checks.specs.Checks.{map_labels, in_grid, wrong_kind, cell_fault};
 
-use grid::{Axes, Cell, Checked, LabelRange, LabelSet, OUTSIDE, SURFACE};
+use grid::{Axes, Cell, LabelRange, LabelSet, OUTSIDE, Reason, Refusal, SURFACE};
 
 fn taken_labels() -> LabelSet
     ensures { result ≡ map_labels }
@@ -40,25 +40,23 @@ fn wrong_kind(surface: bool, label: u8) -> bool
 }
 
 // Refusals 12 and 13, where the map itself has none.
-fn cell_fault(labels: &[u8], r: Axes, c: Cell, surface: bool) -> Checked
+fn cell_fault(labels: &[u8], r: Axes, c: Cell, surface: bool) -> Result<(), Refusal>
     requires { Sheet r labels.now }
     ensures { result ≡ cell_fault r labels.now c surface }
 {
     if in_grid(r, c) {
         let n = grid::number(r, c);
         if wrong_kind(surface, labels[n]) {
-            return grid::fault(grid::WRONG_KIND, 0);
+            return Err(Reason::WrongKind.at(0));
         }
-        return Checked::Fine;
+        return Ok(());
     }
-    grid::fault(grid::OUT_OF_RANGE, 0)
+    Err(Reason::OutOfRange.at(0))
 }
 
-pub fn edit_fault(labels: &[u8], r: Axes, c: Cell, surface: bool) -> Checked
+pub fn edit_fault(labels: &[u8], r: Axes, c: Cell, surface: bool) -> Result<(), Refusal>
     ensures { result ≡ (map_fault map_labels r labels.now and_then cell_fault r labels.now c surface) }
 {
-    match grid::map_fault(labels, r, taken_labels()) {
-        Checked::Fault(f) => Checked::Fault(f),
-        Checked::Fine => cell_fault(labels, r, c, surface),
-    }
+    grid::map_fault(labels, r, taken_labels())?;
+    cell_fault(labels, r, c, surface)
 }

@@ -34,14 +34,10 @@ fn straight(l: &[u8], r: Axes, c: Cell, n: usize, but: u8) -> bool
     requires in_grid { InGrid r c × (n ≡ num r c) }
     ensures { result ≡ true → Leads r l.now c }
 {
-    let mut d = 0u8;
-    while d < edits_reach::WAYS {
-        if d / 2 != but {
-            if look_along(l, r, c, n, d) {
-                return true;
-            }
+    for d in 0..edits_reach::WAYS {
+        if d / 2 != but && look_along(l, r, c, n, d) {
+            return true;
         }
-        d += 1;
     }
     false
 }
@@ -75,12 +71,10 @@ pub fn finds_way(l: &[u8], r: Axes, c: Cell, n: usize) -> bool
     if straight(l, r, c, n, NO_AXIS) {
         return true;
     }
-    let mut d = 0u8;
-    while d < edits_reach::WAYS {
+    for d in 0..edits_reach::WAYS {
         if bent(l, r, c, n, d) {
             return true;
         }
-        d += 1;
     }
     false
 }

@@ -10,7 +10,8 @@ ghost use Rattle.edits_reach.specs.Reach.{way_of, Sees, MayReach, Reaches};
 
 use grid::{Axes, Cell, OUTSIDE};
 
-// ---- the six ways by number: 0 and 1 go up and down i, 2 and 3 j, 4 and 5 k
+// ---- the six ways by number: 0 and 1 go up and down i, 2 and 3 j, 4 and 5 k; they are numbers and no enum, since
+// a cell on a trip has its way in its label, and a cell that a closing has marked has a way for its label
 
 // How many ways there are from a cell to a neighbour.
 pub const WAYS: u8 = 6;
@@ -32,22 +33,14 @@ fn room_for(r: Axes, c: Cell, d: u8) -> usize
     requires { InGrid r c }
     ensures { result ≡ room r (way_of d) c }
 {
-    if d == 0 {
-        return r.r0 - (c.i + 1);
+    match d {
+        0 => r.r0 - (c.i + 1),
+        1 => c.i,
+        2 => r.r1 - (c.j + 1),
+        3 => c.j,
+        4 => r.r2 - (c.k + 1),
+        _ => c.k,
     }
-    if d == 1 {
-        return c.i;
-    }
-    if d == 2 {
-        return r.r1 - (c.j + 1);
-    }
-    if d == 3 {
-        return c.j;
-    }
-    if d == 4 {
-        return r.r2 - (c.k + 1);
-    }
-    c.k
 }
 
 // The neighbour that way.
@@ -56,25 +49,14 @@ pub fn neighbour(r: Axes, c: Cell, d: u8) -> Cell
     requires has_room { 0 < room r (way_of d) c }
     ensures { result ≡ beside (way_of d) c }
 {
-    let i = c.i;
-    let j = c.j;
-    let k = c.k;
-    if d == 0 {
-        return Cell { i: i + 1, j, k };
+    match d {
+        0 => Cell { i: c.i + 1, ..c },
+        1 => Cell { i: c.i - 1, ..c },
+        2 => Cell { j: c.j + 1, ..c },
+        3 => Cell { j: c.j - 1, ..c },
+        4 => Cell { k: c.k + 1, ..c },
+        _ => Cell { k: c.k - 1, ..c },
     }
-    if d == 1 {
-        return Cell { i: i - 1, j, k };
-    }
-    if d == 2 {
-        return Cell { i, j: j + 1, k };
-    }
-    if d == 3 {
-        return Cell { i, j: j - 1, k };
-    }
-    if d == 4 {
-        return Cell { i, j, k: k + 1 };
-    }
-    Cell { i, j, k: k - 1 }
 }
 
 // Its number; n is c's.
@@ -83,22 +65,14 @@ fn number_ahead(r: Axes, c: Cell, n: usize, d: u8) -> usize
     requires has_room { 0 < room r (way_of d) c }
     ensures { result ≡ num r (beside (way_of d) c) }
 {
-    if d == 0 {
-        return n + 1;
+    match d {
+        0 => n + 1,
+        1 => n - 1,
+        2 => n + r.r0,
+        3 => n - r.r0,
+        4 => n + r.r0 * r.r1,
+        _ => n - r.r0 * r.r1,
     }
-    if d == 1 {
-        return n - 1;
-    }
-    if d == 2 {
-        return n + r.r0;
-    }
-    if d == 3 {
-        return n - r.r0;
-    }
-    if d == 4 {
-        return n + r.r0 * r.r1;
-    }
-    n - r.r0 * r.r1
 }
 
 // The way back.
@@ -106,25 +80,18 @@ fn opposite(d: u8) -> u8
     requires { d < 6 }
     ensures { (result < 6) × (way_of result ≡ counter (way_of d)) }
 {
-    if d == 0 {
-        return 1;
+    match d {
+        0 => 1,
+        1 => 0,
+        2 => 3,
+        3 => 2,
+        4 => 5,
+        _ => 4,
     }
-    if d == 1 {
-        return 0;
-    }
-    if d == 2 {
-        return 3;
-    }
-    if d == 3 {
-        return 2;
-    }
-    if d == 4 {
-        return 5;
-    }
-    4
 }
 
-// The label of a neighbour and its number; at the edge, where there is none, NO_LABEL.
+// The label of a neighbour and its number; at the edge, where there is none, NO_LABEL. It is a struct and no Option,
+// so that a trip asks once, whether the label is the one that it passes.
 #[derive(Clone, Copy)]
 pub struct Seen {
     pub label: u8,
@@ -158,7 +125,7 @@ fn is_exit(stop: bool, r: Axes, c: Cell) -> bool
     requires { InGrid r c }
     ensures { result ≡ cond stop (on_border r c) false }
 {
-    if stop { grid::on_border(r, c) } else { false }
+    stop && grid::on_border(r, c)
 }
 
 // A label under 6 that is not the trip's own is an exit too.

@@ -98,12 +98,10 @@ pub fn settle_all(l: &mut [u8], r: Axes, c: Cell, n: usize, trips: bool) -> Seal
 {
     let mut sealed = 0usize;
     let mut marked = 0usize;
-    let mut d = 0u8;
-    while d < edits_reach::WAYS {
+    for d in 0..edits_reach::WAYS {
         let s = settle(l, r, c, n, d, trips);
         sealed += s.sealed;
         marked += s.marked;
-        d += 1;
     }
     SealCounts { sealed, marked }
 }
@@ -132,9 +130,7 @@ pub fn restore_all(l: &mut [u8], r: Axes, c: Cell, n: usize, marked: usize)
         grid::replace(l, 0, len, 0, LAST_MARK, OUTSIDE);
         return;
     }
-    let mut d = 0u8;
-    while d < edits_reach::WAYS {
+    for d in 0..edits_reach::WAYS {
         restore(l, r, c, n, d, marked);
-        d += 1;
     }
 }

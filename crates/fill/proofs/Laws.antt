@@ -1,4 +1,5 @@
 -- What the contract of `fill` says: its numbers, that two results coincide in every mode, and demand 2 cell by cell. Assumes nothing.
+use Rattle.std.specs.Prelude.{Err}
 use mathlib.Core.Logic.{◌↔◌}
 use mathlib.Core.Path.{◌≡◌, sym, ap, subst, ◌∙◌}
 use mathlib.Core.List.{List, [], ◌∷◌, map}
@@ -6,20 +7,19 @@ use Prim.Native.Nat.{ℕ}
 use native.Mathlib.Omega.{arith}
 use Rattle.grid.specs.declared.Axes.{Axes}
 use Rattle.grid.specs.declared.Cell.{Cell}
-use Rattle.grid.specs.Answers.{Outcome, refuses, Ends, Gives}
+use Rattle.grid.specs.declared.Refusal.{Refusal}
+use Rattle.grid.specs.Answers.{Outcome, Ends, Gives}
 use Rattle.grid.specs.Flood.{NoSurface, Aired}
 use Rattle.grid.specs.Grid.{InGrid, at}
 use Rattle.grid.proofs.Checks.{finds_map, ends_one, ends_same, ends_gives}
 use Rattle.grid.proofs.Floods.{surface_means, outside_means, inside_means}
 use Rattle.fill_walks.proofs.Runs.{run_one}
 use Rattle.fill.specs.declared.FillCounts.{FillCounts}
-use Rattle.fill.specs.declared.Filling.{Filling}
-use Rattle.fill.specs.declared.Filling.TheVariants.{Filled, Refused}
 use Rattle.fill.specs.declared.Mode.{Mode}
 use Rattle.fill.specs.declared.Mode.TheVariants.{SurfaceOnly, Flood, Cavities}
 use Rattle.fill.specs.Phases.{outward, Alternate}
 use Rattle.grid.specs.Passes.{becomes}
-use Rattle.fill.specs.Modes.{outcome, marks, fill_fault, left, Scans, Fills, Means}
+use Rattle.fill.specs.Modes.{marks, fill_fault, left, Scans, Fills, Means}
 use Rattle.fill.proofs.Swings.{alternate_one}
 
 -- ---- which numbers fill gives: 8, 9 and 11
@@ -28,8 +28,8 @@ pub fill_numbers : (mode : Mode) (r : Axes) (l m : List ℕ) (o : Outcome FillCo
 fill_numbers mode r l m o e = ends_gives (8 ∷ 9 ∷ 11 ∷ []) (fill_fault r l) l (Fills mode r l) o m (finds_map (8 ∷ 9 ∷ 11 ∷ []) marks r l tt tt tt) e
 
 -- a refusal leaves every label
-pub refused_same : (mode : Mode) (r : Axes) (l m : List ℕ) (n place : ℕ) → Ends (fill_fault r l) l (Fills mode r l) (refuses n place) m → m ≡ l
-refused_same mode r l m n place e = ends_same (fill_fault r l) l (Fills mode r l) n place m e
+pub refused_same : (mode : Mode) (r : Axes) (l m : List ℕ) (f : Refusal) → Ends (fill_fault r l) l (Fills mode r l) (Err f) m → m ≡ l
+refused_same mode r l m f e = ends_same (fill_fault r l) l (Fills mode r l) f m e
 
 -- ---- two results that fit coincide, labels, scans and cells left, in every mode
 
@@ -49,23 +49,11 @@ fills_one mode r l m n a b p q =
     let v : m.left ≡ n.left = p.counted ∙ ap left u.0 ∙ sym q.counted in
     ((λ t. record { scans = u.1 t; left = v t }), u.0)
 
-outcome_one : (a b : Filling) → outcome a ≡ outcome b → a ≡ b
-outcome_one (Filled m) (Filled n) h =
-    let e : m.scans ≡ n.scans = cc in
-    let k : m.left ≡ n.left = cc in
-    λ t. Filled (record { scans = e t; left = k t })
-outcome_one (Filled m) (Refused g) h = absurd (let z : ◌≡◌ {A = ℕ} 0 1 = cc in omega arith)
-outcome_one (Refused f) (Filled n) h = absurd (let z : ◌≡◌ {A = ℕ} 0 1 = cc in omega arith)
-outcome_one (Refused f) (Refused g) h =
-    let e : f.number ≡ g.number = cc in
-    let k : f.place ≡ g.place = cc in
-    λ t. Refused (record { number = e t; place = k t })
-
-pub settled : (mode : Mode) (r : Axes) (l : List ℕ) (f g : Filling) (a b : List ℕ)
-    → Ends (fill_fault r l) l (Fills mode r l) (outcome f) a → Ends (fill_fault r l) l (Fills mode r l) (outcome g) b → (f ≡ g) × (a ≡ b)
+pub settled : (mode : Mode) (r : Axes) (l : List ℕ) (f g : Outcome FillCounts) (a b : List ℕ)
+    → Ends (fill_fault r l) l (Fills mode r l) f a → Ends (fill_fault r l) l (Fills mode r l) g b → (f ≡ g) × (a ≡ b)
 settled mode r l f g a b p q =
-    let u = ends_one (fill_fault r l) l (Fills mode r l) (λ m n x y _ v w. fills_one mode r l m n x y v w) (outcome f) (outcome g) a b p q in
-    (outcome_one f g u.0, u.1)
+    let u = ends_one (fill_fault r l) l (Fills mode r l) (λ m n x y _ v w. fills_one mode r l m n x y v w) f g a b p q in
+    (u.0, u.1)
 
 -- ---- demand 2: after a fill without cavities, cell by cell
 

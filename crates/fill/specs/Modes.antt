@@ -2,9 +2,8 @@
 use Rattle.std.specs.Prelude.{Bool, true, ◌↔◌, ◌≡◌, List, map, ℕ, ◌+◌, ◌≤◌, eqb, length}
 use Rattle.grid.specs.declared.Axes.{Axes}
 use Rattle.grid.specs.declared.Cell.{Cell}
-use Rattle.grid.specs.declared.Checked.{Checked}
 use Rattle.grid.specs.declared.LabelSet.{LabelSet}
-use Rattle.grid.specs.Answers.{Outcome, answers, refuses}
+use Rattle.grid.specs.Answers.{Checked}
 use Rattle.grid.specs.Checks.{takes, map_fault, label_ranges}
 use Rattle.grid.specs.Counts.{count, count_of}
 use Rattle.grid.specs.First.{every}
@@ -14,14 +13,7 @@ use Rattle.grid.specs.Labels.{UNDEFINED, INSIDE_TO_WALK, OUTSIDE, SURFACE}
 use Rattle.fill.specs.declared.Mode.{Mode}
 use Rattle.fill.specs.declared.Mode.TheVariants.{SurfaceOnly, Flood, Cavities}
 use Rattle.fill.specs.declared.FillCounts.{FillCounts}
-use Rattle.fill.specs.declared.Filling.{Filling}
-use Rattle.fill.specs.declared.Filling.TheVariants.{Filled, Refused}
 use Rattle.fill.specs.Phases.{surface_only, FloodRun, CavityRun}
-
--- 01's number and values for each case of `Filling`
-abbrev pub outcome : Filling → Outcome FillCounts
-outcome (Filled n) = answers n
-outcome (Refused f) = refuses f.number f.place
 
 -- "marks of 0 and 8 only (else 11)", after 8 and 9
 abbrev pub marks : LabelSet

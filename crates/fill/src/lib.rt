@@ -7,16 +7,16 @@ ghost use Rattle.grid.specs.Grid.{Sheet};
 ghost use Rattle.fill_walks.specs.Run.{Run};
 ghost use Rattle.fill.specs.declared.Mode.TheVariants.{SurfaceOnly, Flood, Cavities};
 ghost use Rattle.fill.specs.Phases.{outward, phase_of, Alternate};
-ghost use Rattle.fill.specs.Modes.{outcome, marks, fill_fault, Fills, Means};
+ghost use Rattle.fill.specs.Modes.{marks, fill_fault, Fills, Means};
 ghost use Rattle.fill.specs.Passes.{Marks};
 
-use fill_walks::{Phase, Walkers};
+use fill_walks::Phase;
 use grid::{
-    Axes, Checked, INSIDE, INSIDE_TO_WALK, LabelRange, LabelSet, NO_WALK, OUTSIDE, OUTSIDE_TO_WALK,
-    Refusal, SURFACE, SURFACE_WALK_1, SURFACE_WALK_2, UNDEFINED,
+    Axes, INSIDE, INSIDE_TO_WALK, LabelRange, LabelSet, NO_WALK, OUTSIDE, OUTSIDE_TO_WALK, Refusal,
+    SURFACE, SURFACE_WALK_1, SURFACE_WALK_2, UNDEFINED,
 };
 
-#[derive(Clone, Copy)]
+#[derive(Clone, Copy, Debug, PartialEq, Eq)]
 pub enum Mode {
     SurfaceOnly,
     Flood,
@@ -24,17 +24,10 @@ pub enum Mode {
 }
 
 // How many scans of the whole grid there were, and how many cells are left.
-#[derive(Clone, Copy)]
+#[derive(Clone, Copy, Debug, PartialEq, Eq)]
 pub struct FillCounts {
     pub scans: usize,
     pub left: usize,
-}
-
-// What a fill answers; the fill itself is in the labels.
-#[derive(Clone, Copy)]
-pub enum Filling {
-    Filled(FillCounts),
-    Refused(Refusal),
 }
 
 // ---- phases
@@ -47,7 +40,7 @@ fn outward_with(mark: u8) -> Phase
         pass: UNDEFINED,
         todo: OUTSIDE_TO_WALK,
         done: OUTSIDE,
-        walkers: Walkers::Nobody,
+        walkers: None,
         mark,
     }
 }
@@ -60,7 +53,7 @@ fn phase_of(inward: bool) -> Phase
             pass: UNDEFINED,
             todo: INSIDE_TO_WALK,
             done: INSIDE,
-            walkers: Walkers::Those(SURFACE_WALK_1),
+            walkers: Some(SURFACE_WALK_1),
             mark: SURFACE_WALK_2,
         };
     }
@@ -68,7 +61,7 @@ fn phase_of(inward: bool) -> Phase
         pass: UNDEFINED,
         todo: OUTSIDE_TO_WALK,
         done: OUTSIDE,
-        walkers: Walkers::Those(SURFACE_WALK_2),
+        walkers: Some(SURFACE_WALK_2),
         mark: SURFACE_WALK_1,
     }
 }
@@ -167,12 +160,10 @@ fn taken_marks() -> LabelSet
 }
 
 // Fills a map whose labels are 0 and 8, or refuses and writes nothing.
-pub fn fill(labels: &mut [u8], r: Axes, mode: Mode) -> Filling
-    ensures ends { Ends (fill_fault r labels.old) labels.old (Fills mode r labels.old) (outcome result) labels.new }
-    ensures means { Ends (fill_fault r labels.old) labels.old (Means mode r labels.old) (outcome result) labels.new }
+pub fn fill(labels: &mut [u8], r: Axes, mode: Mode) -> Result<FillCounts, Refusal>
+    ensures ends { Ends (fill_fault r labels.old) labels.old (Fills mode r labels.old) result labels.new }
+    ensures means { Ends (fill_fault r labels.old) labels.old (Means mode r labels.old) result labels.new }
 {
-    match grid::map_fault(labels, r, taken_marks()) {
-        Checked::Fault(f) => Filling::Refused(f),
-        Checked::Fine => Filling::Filled(fill_by(labels, r, mode)),
-    }
+    grid::map_fault(labels, r, taken_marks())?;
+    Ok(fill_by(labels, r, mode))
 }

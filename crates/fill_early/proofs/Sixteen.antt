@@ -9,6 +9,7 @@ use lib.Dec.{eqb}
 use lib.ListN.{length, get_or, set, length-set}
 use lib.Seq.{set-get_or, get_or-set_same, get_or-set_other}
 use borrow.Author.Tests.{eq-eqb}
+use Rattle.std.specs.Prelude.{Option, Some, None, unwrap_or}
 use Rattle.grid.specs.declared.Axes.{Axes}
 use Rattle.grid.specs.declared.Cell.{Cell}
 use Rattle.grid.specs.Grid.{num, Sheet, at}
@@ -36,22 +37,25 @@ other_stops : (p : Phase) (b v : ℕ) → (b ≡ 8) ⊎ (p.mark ≡ 8) → Other
 other_stops p b v (inl e) o = record { unpassed = o.first; unmarked = λ q. absurd (o.second (q ∙ sym e)) }
 other_stops p b v (inr e) o = record { unpassed = o.first; unmarked = λ q. e }
 
+-- a walker has this label; where nobody walks, it may be any
+pub walker_is : (w : Option ℕ) (none v : ℕ) → is_walker w v ≡ true → v ≡ unwrap_or w none
+walker_is None none v e = absurd (true≢false (sym e))
+walker_is (Some s) none v e = eq_of v s e
+
 -- ---- a loop that looks at d of them
 
-pub record Looked (l : List ℕ) (n a b : ℕ) (some : Bool) (d : ℕ) : Type 0 where
-  pub most : d ≤ 16
-  pub none : some ≡ false → (x : ℕ) → x < d → Other a b (get_or l (n + x) 0)
+pub record Looked (l : List ℕ) (a b : ℕ) (some : Bool) (d : ℕ) : Type 0 where
+  pub none : some ≡ false → (x : ℕ) → x < d → Other a b (get_or l x 0)
 
-pub looked_none : (l : List ℕ) (n a b : ℕ) → Looked l n a b false 0
-looked_none l n a b = record { most = omega arith; none = λ e x h. absurd (omega arith) }
+pub looked_none : (l : List ℕ) (a b : ℕ) → Looked l a b false 0
+looked_none l a b = record { none = λ e x h. absurd (omega arith) }
 
-pub looked_more : (l : List ℕ) (n a b : ℕ) (some x : Bool) (d : ℕ) → d < 16 → x ≡ (eqb (get_or l (n + d) 0) a || eqb (get_or l (n + d) 0) b) → Looked l n a b some d → Looked l n a b (some || x) (d + 1)
-looked_more l n a b some x d h e k = record {
-  most = omega arith;
+pub looked_more : (l : List ℕ) (a b : ℕ) (some x : Bool) (d : ℕ) → x ≡ (eqb (get_or l d 0) a || eqb (get_or l d 0) b) → Looked l a b some d → Looked l a b (some || x) (d + 1)
+looked_more l a b some x d e k = record {
   none = λ q y g.
       let z = or_false some x q in
       dec_eq y d
-      (λ u. subst (λ (t : ℕ). Other a b (get_or l (n + t) 0)) (sym u) (other_than (get_or l (n + d) 0) a b (sym e ∙ z.1)))
+      (λ u. subst (λ (t : ℕ). Other a b (get_or l t 0)) (sym u) (other_than (get_or l d 0) a b (sym e ∙ z.1)))
       (λ u. k.none z.0 y (not_last y d g u));
 }
 

@@ -11,23 +11,14 @@ ghost use Rattle.fill_walks.specs.Quiet.{Clear, Stops, Quiet};
 ghost use Rattle.fill_groups.specs.Groups.{Covers};
 ghost use Rattle.fill_early.specs.Early.{step_if, EarlySame, IdleUnless, InRow, InRows, Blocked, Grouped, Other, TellsNear, set_from};
 
-use fill_walks::{Phase, Walkers};
+use fill_walks::Phase;
 use grid::{Axes, Cell, SURFACE, Stretch};
 
 // Whether a walk that meets this label changes something.
 fn changes(p: Phase, label: u8) -> bool
     ensures { result ≡ false → Stops p label }
 {
-    if label == p.pass {
-        return true;
-    }
-    if label == SURFACE {
-        if p.mark == SURFACE {
-            return false;
-        }
-        return true;
-    }
-    false
+    label == p.pass || (label == SURFACE && p.mark != SURFACE)
 }
 
 // A step that way, or none at the edge.
@@ -92,23 +83,17 @@ fn early_cells(
     ensures early_same { EarlySame p r slabs.from slabs.to l.old before l.new result.walked }
     ensures from_bound { (result.walked + slabs.from ≤ before + slabs.to) × IdleUnless p r l.new result.acting (InRow slabs.from slabs.to j k) }
 {
-    let first = slabs.from;
-    let end = slabs.to;
     let todo = p.todo;
+    let row = j * r.r0 + k * (r.r0 * r.r1);
     let mut walked = before;
     let mut acting = false;
-    let mut next = first + j * r.r0 + k * (r.r0 * r.r1);
-    let mut i = first;
-    while i < end {
-        let c = Cell { i, j, k };
-        let n = next;
-        i += 1;
-        next += 1;
+    for i in slabs.from..slabs.to {
+        let n = i + row;
         let v = l[n];
         if fill_walks::is_idle(p, v) {
             continue;
         }
-        if acts(l, p, r, c, n) {
+        if acts(l, p, r, Cell { i, j, k }, n) {
             acting = true;
             continue;
         }
@@ -121,16 +106,6 @@ fn early_cells(
 }
 
 // ---- sixteen cells at a time, in loops without a branch, which a processor does with many at once
-
-// The label of the walkers; where nobody walks, another one.
-fn walker_label(w: Walkers, none: u8) -> u8
-    ensures { (v : ℕ) → is_walker w v ≡ true → v ≡ result }
-{
-    match w {
-        Walkers::Nobody => none,
-        Walkers::Those(s) => s,
-    }
-}
 
 // The label beside the passed one that a walk changes; where there is none, the passed one.
 fn changed_label(p: Phase) -> u8
@@ -145,6 +120,7 @@ fn either(label: u8, a: u8, b: u8) -> bool
     (label == a) | (label == b)
 }
 
+// A function of its own: with an `if` in their place the loops below are built with branches, and take longer.
 fn choose(b: bool, yes: u8, no: u8) -> u8
     ensures { result ≡ cond b yes no }
 {
@@ -156,11 +132,10 @@ fn some_of(l: &[u8], n: usize, a: u8, b: u8) -> bool
     requires { n + 16 ≤ length l.now }
     ensures { result ≡ false → (d : ℕ) → d < 16 → Other a b (get_or l.now (n + d) 0) }
 {
+    let sixteen = &l[n..n + 16];
     let mut some = false;
-    let mut d = 0usize;
-    while d < 16 {
-        some = some | either(l[n + d], a, b);
-        d += 1;
+    for label in sixteen {
+        some |= either(*label, a, b);
     }
     some
 }
@@ -171,11 +146,9 @@ fn near(l: &[u8], n: usize, up: usize, down: usize, a: u8, b: u8, told: [u8; 16]
     ensures { (length result ≡ 16) × TellsNear l.now n up down a b told result }
 {
     let mut out = told;
-    let mut d = 0usize;
-    while d < 16 {
+    for d in 0..16 {
         let met = either(l[n + up + d], a, b) | either(l[n - down + d], a, b);
         out[d] = choose(met, 1, out[d]);
-        d += 1;
     }
     out
 }
@@ -189,18 +162,18 @@ fn set_sixteen(l: &mut [u8], n: usize, todo: u8, done: u8, other: u8, told: [u8;
 {
     let mut set = 0u8;
     let mut acting = false;
-    let mut d = 0usize;
-    while d < 16 {
+    for d in 0..16 {
         let v = l[n + d];
         let untold = told[d] == 0;
         let early = (v == todo) & untold;
         l[n + d] = choose(early, done, v);
-        set += choose(early, 1, 0);
-        acting = acting | (either(v, todo, other) & !untold);
-        d += 1;
+        set += u8::from(early);
+        acting |= either(v, todo, other) & !untold;
     }
-    let walked = set as usize;
-    Progress { walked, acting }
+    Progress {
+        walked: usize::from(set),
+        acting,
+    }
 }
 
 // Sixteen cells along i from c on, whose number is n, with neighbours along i on both sides; one of them is to
@@ -262,8 +235,7 @@ fn early_some(l: &mut [u8], p: Phase, r: Axes, c: Cell, before: usize) -> Progre
 {
     let n = grid::number(r, c);
     let todo = p.todo;
-    let walkers = p.walkers;
-    let other = walker_label(walkers, todo);
+    let other = p.walkers.unwrap_or(todo);
     if some_of(l, n, todo, other) {
         return early_sixteen(l, p, r, c, n, other, before);
     }
@@ -278,16 +250,7 @@ fn sixteen_inside(first: usize, end: usize, all: usize) -> bool
     requires { first ≤ end }
     ensures { result ≡ true → (0 < first) × (end ≡ first + 16) × (end < all) }
 {
-    if first == 0 {
-        return false;
-    }
-    if end - first != 16 {
-        return false;
-    }
-    if end < all {
-        return true;
-    }
-    false
+    0 < first && end - first == 16 && end < all
 }
 
 // The cells of some slabs with one j and one k.
@@ -322,15 +285,12 @@ fn early_rows(l: &mut [u8], p: Phase, r: Axes, g: Group, before: usize) -> Progr
 {
     let slabs = g.slabs;
     let j = g.j;
-    let to = g.layers.to;
     let mut walked = before;
     let mut acting = false;
-    let mut k = g.layers.from;
-    while k < to {
+    for k in g.layers.from..g.layers.to {
         let a = early_row(l, p, r, slabs, j, k, walked);
         walked = a.walked;
-        acting = acting | a.acting;
-        k += 1;
+        acting |= a.acting;
     }
     Progress { walked, acting }
 }
@@ -347,7 +307,7 @@ fn early_group(l: &mut [u8], table: &mut [u8], p: Phase, r: Axes, g: Group, befo
         return before;
     }
     let a = early_rows(l, p, r, g, before);
-    table[n] = choose(a.acting, 1, 0);
+    table[n] = u8::from(a.acting);
     a.walked
 }
 
@@ -366,13 +326,9 @@ fn early_groups(
     ensures early_same { EarlySame p r slabs.from slabs.to l.old before l.new result }
     ensures upper_bound { (result ≤ before + 1048576) × Covers p r l.new table.new }
 {
-    let all = r.r1;
     let mut walked = before;
-    let mut j = 0usize;
-    while j < all {
-        let g = Group { slabs, j, layers };
-        walked = early_group(l, table, p, r, g, walked);
-        j += 1;
+    for j in 0..r.r1 {
+        walked = early_group(l, table, p, r, Group { slabs, j, layers }, walked);
     }
     walked
 }
@@ -393,12 +349,10 @@ pub fn set_early(
 {
     let all = r.r2;
     let mut walked = before;
-    let mut g = 0usize;
-    while fill_groups::GROUP * g < all {
+    for g in 0..all.div_ceil(fill_groups::GROUP) {
         let from = fill_groups::GROUP * g;
-        let to = fill_walks::smaller(from + fill_groups::GROUP, all);
+        let to = (from + fill_groups::GROUP).min(all);
         walked = early_groups(l, table, p, r, slabs, Stretch { from, to }, walked);
-        g += 1;
     }
     walked
 }

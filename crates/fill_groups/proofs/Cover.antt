@@ -4,19 +4,20 @@ use mathlib.Core.Logic.{◌⊎◌, inl, inr}
 use mathlib.Core.Path.{◌≡◌, refl, sym, ap, subst, ◌∙◌}
 use mathlib.Core.List.{List}
 use Prim.Native.Nat.{ℕ, ◌+◌, ◌*◌, ◌-◌, ◌≤◌, ◌<◌}
-use native.Mathlib.Nat.{add-mul, one-mul}
+use native.Mathlib.Nat.{add-mul, one-mul, mul-le-mul_right}
 use native.Mathlib.Omega.{arith}
 use lib.Dec.{T, eqb, eqb→eq}
-use lib.ListN.{length, get_or, set, replicate, length-set, length-replicate, get_or-replicate}
+use lib.ListN.{length, get_or, set, take, drop, replicate, length-set, length-replicate, get_or-replicate}
 use lib.Seq.{get_or-set_same, get_or-set_other}
+use Rattle.std.proofs.lemmas.List.{get_or-drop, get_or-take, length-drop, length-take}
 use Rattle.grid.specs.declared.Axes.{Axes}
 use Rattle.grid.specs.declared.Cell.{Cell}
 use Rattle.grid.specs.Grid.{num, InGrid, Sound, at}
-use Rattle.grid.proofs.Cells.{dec_eq, num_inj}
+use Rattle.grid.proofs.Cells.{dec_eq}
 use Rattle.grid.proofs.Checks.{or_false, not_false}
 use Rattle.fill_walks.specs.declared.Phase.{Phase}
 use Rattle.fill_walks.specs.Scan.{is_walker}
-use Rattle.fill_walks.specs.Quiet.{Clear, Stops, Quiet, Idle, SetEarly, on, Near, Swept}
+use Rattle.fill_walks.specs.Quiet.{Clear, Stops, Quiet, Idle, SetEarly, Near, Swept}
 use Rattle.fill_walks.proofs.Quiets.{stops_todo, stops_mark, quiet_kept, early_quiet, early_todo, early_walker}
 use Rattle.fill_groups.specs.Groups.{table_length, place_at, place_of, Up, Raises, Covers}
 
@@ -147,104 +148,67 @@ module _ (p : Phase) (k : Clear p) (r : Axes) where
         walkers c i e (inr (inl q)) = inl (f c i q.0)
         walkers c i e (inr (inr q)) = absurd (true≢false (sym e ∙ ap (is_walker p.walkers) q ∙ k.mark_stays))
 
--- ---- which cells lie near, along each axis
+-- ---- small laws
 
-back : (a s n : ℕ) → s ≤ a → (a - s) * n + s * n ≡ a * n
+pub back : (a s n : ℕ) → s ≤ a → (a - s) * n + s * n ≡ a * n
 back a s n h = sym (add-mul (a - s) s n) ∙ ap (λ (x : ℕ). x * n) (whole a s h)
   where
     whole : (a s : ℕ) → s ≤ a → a - s + s ≡ a
     whole a s h = omega arith
 
-module _ (r : Axes) (c : Cell) (h : InGrid r c) (up down : ℕ) where
-  pub near_k : c.k + up < r.r2 → down ≤ c.k → (d : Cell) → InGrid r d → Near (num r c) (r.r0 * r.r1) up down (num r d)
-      → (d.i ≡ c.i) × (d.j ≡ c.j) × (c.k - down ≤ d.k) × (d.k ≤ c.k + up)
-  near_k a b d i (inl (on s g e)) =
-      let x : Cell = record { i = c.i; j = c.j; k = c.k + s } in
-      let q : d ≡ x = num_inj r d x i (record { i_in = h.i_in; j_in = h.j_in; k_in = omega arith }) (omega (arith, e, add-mul c.k s (r.r0 * r.r1))) in
-      (ap (λ (y : Cell). y.i) q, ap (λ (y : Cell). y.j) q, omega (arith, ap (λ (y : Cell). y.k) q), omega (arith, ap (λ (y : Cell). y.k) q))
-  near_k a b d i (inr (on s g e)) =
-      let x : Cell = record { i = c.i; j = c.j; k = c.k - s } in
-      let q : d ≡ x = num_inj r d x i (record { i_in = h.i_in; j_in = h.j_in; k_in = omega (arith, h.k_in) }) (omega (arith, e, back c.k s (r.r0 * r.r1) (omega arith))) in
-      (ap (λ (y : Cell). y.i) q, ap (λ (y : Cell). y.j) q, omega (arith, ap (λ (y : Cell). y.k) q), omega (arith, ap (λ (y : Cell). y.k) q))
+pub not_last : (x n : ℕ) → x < n + 1 → (x ≡ n → ⊥) → x < n
+not_last x n g u = omega arith
 
-  pub near_j : c.j + up < r.r1 → down ≤ c.j → (d : Cell) → InGrid r d → Near (num r c) r.r0 up down (num r d)
-      → (d.i ≡ c.i) × (d.k ≡ c.k) × (c.j - down ≤ d.j) × (d.j ≤ c.j + up)
-  near_j a b d i (inl (on s g e)) =
-      let x : Cell = record { i = c.i; j = c.j + s; k = c.k } in
-      let q : d ≡ x = num_inj r d x i (record { i_in = h.i_in; j_in = omega arith; k_in = h.k_in }) (omega (arith, e, add-mul c.j s r.r0)) in
-      (ap (λ (y : Cell). y.i) q, ap (λ (y : Cell). y.k) q, omega (arith, ap (λ (y : Cell). y.j) q), omega (arith, ap (λ (y : Cell). y.j) q))
-  near_j a b d i (inr (on s g e)) =
-      let x : Cell = record { i = c.i; j = c.j - s; k = c.k } in
-      let q : d ≡ x = num_inj r d x i (record { i_in = h.i_in; j_in = omega (arith, h.j_in); k_in = h.k_in }) (omega (arith, e, back c.j s r.r0 (omega arith))) in
-      (ap (λ (y : Cell). y.i) q, ap (λ (y : Cell). y.k) q, omega (arith, ap (λ (y : Cell). y.j) q), omega (arith, ap (λ (y : Cell). y.j) q))
+-- ---- a slice: m from n on
 
-  pub near_i : c.i + up < r.r0 → down ≤ c.i → (d : Cell) → InGrid r d → Near (num r c) 1 up down (num r d)
-      → (d.j ≡ c.j) × (d.k ≡ c.k) × (c.i - down ≤ d.i) × (d.i ≤ c.i + up)
-  near_i a b d i (inl (on s g e)) =
-      let x : Cell = record { i = c.i + s; j = c.j; k = c.k } in
-      let q : d ≡ x = num_inj r d x i (record { i_in = omega arith; j_in = h.j_in; k_in = h.k_in }) (omega (arith, e)) in
-      (ap (λ (y : Cell). y.j) q, ap (λ (y : Cell). y.k) q, omega (arith, ap (λ (y : Cell). y.i) q), omega (arith, ap (λ (y : Cell). y.i) q))
-  near_i a b d i (inr (on s g e)) =
-      let x : Cell = record { i = c.i - s; j = c.j; k = c.k } in
-      let q : d ≡ x = num_inj r d x i (record { i_in = omega (arith, h.i_in); j_in = h.j_in; k_in = h.k_in }) (omega (arith, e)) in
-      (ap (λ (y : Cell). y.j) q, ap (λ (y : Cell). y.k) q, omega (arith, ap (λ (y : Cell). y.i) q), omega (arith, ap (λ (y : Cell). y.i) q))
+pub part_length : (l : List ℕ) (n m : ℕ) → n + m ≤ length l → length (take (n + m - n) (drop n l)) ≡ m
+part_length l n m h = omega (arith, length-take (n + m - n) (drop n l), length-drop n l)
 
--- ---- a loop that raises bytes a stride apart, of which `left` are left
+pub part_at : (l : List ℕ) (n m x : ℕ) → x < m → get_or (take (n + m - n) (drop n l)) x 0 ≡ get_or l (n + x) 0
+part_at l n m x h = get_or-take (n + m - n) (drop n l) x 0 (omega arith) ∙ get_or-drop n l x 0
 
-pub record Raising (from stride count : ℕ) (t₀ t : List ℕ) (n left : ℕ) : Type 0 where
-  pub most : left ≤ count
-  pub stands : n + left * stride ≡ from + count * stride
+-- ---- a loop that raises bytes a stride apart, n so far
+
+pub record Raising (from stride : ℕ) (t₀ t : List ℕ) (n : ℕ) : Type 0 where
   pub raised : Raises t₀ t
-  pub done : (s : ℕ) → s < count - left → Up t (from + s * stride)
+  pub done : (s : ℕ) → s < n → Up t (from + s * stride)
 
-module _ (from stride count : ℕ) (t₀ : List ℕ) where
-  pub raising_none : Raising from stride count t₀ t₀ from count
-  raising_none = record { most = omega arith; stands = refl; raised = raises_same t₀; done = λ s h. absurd (omega arith) }
+module _ (from stride : ℕ) (t₀ : List ℕ) where
+  pub raising_none : Raising from stride t₀ t₀ 0
+  raising_none = record { raised = raises_same t₀; done = λ s h. absurd (omega arith) }
 
-  one_left : (left : ℕ) → 0 < left → left * stride ≡ (left - 1) * stride + stride
-  one_left left h = sym (back left 1 stride h) ∙ omega (arith, one-mul stride)
+  pub raising_within : (count len n : ℕ) → n < count → from + count * stride < len + stride → from + n * stride < len
+  raising_within count len n h g =
+      let m : (n + 1) * stride ≤ count * stride = mul-le-mul_right stride (omega arith) in
+      omega (arith, g, m, add-mul n 1 stride, one-mul stride)
 
-  pub raising_within : (t : List ℕ) (n left : ℕ) → 0 < left → from + count * stride < length t₀ + stride → Raising from stride count t₀ t n left → n < length t
-  raising_within t n left h g a = omega (arith, one_left left h, a.stands, a.raised.size)
-
-  pub raising_more : (t : List ℕ) (n left : ℕ) → 0 < left → from + count * stride < length t₀ + stride → Raising from stride count t₀ t n left → Raising from stride count t₀ (set t n 1) (n + stride) (left - 1)
-  raising_more t n left h g a =
-      let w = raising_within t n left h g a in
-      record {
-        most = omega (arith, a.most);
-        stands = omega (arith, a.stands, one_left left h);
-        raised = raises_then a.raised (raises_set t n w);
-        done = λ s u. dec_eq s (count - left)
-            (λ e. subst (Up (set t n 1)) (omega (arith, a.stands, back count left stride a.most, ap (λ (x : ℕ). x * stride) e)) (set_up t n w))
-            (λ z. (raises_set t n w).kept _ (a.done s (less s u z)));
+  pub raising_more : (t : List ℕ) (n : ℕ) → from + n * stride < length t → Raising from stride t₀ t n → Raising from stride t₀ (set t (from + n * stride) 1) (n + 1)
+  raising_more t n w a =
+      let x : ℕ = from + n * stride in record {
+        raised = raises_then a.raised (raises_set t x w);
+        done = λ s u. dec_eq s n
+            (λ e. subst (Up (set t x 1)) (ap (λ (y : ℕ). from + y * stride) (sym e)) (set_up t x w))
+            (λ z. (raises_set t x w).kept _ (a.done s (not_last s n u z)));
       }
-    where
-      less : (s : ℕ) → s < count - (left - 1) → (s ≡ count - left → ⊥) → s < count - left
-      less s u z = omega (arith, a.most)
 
 -- ---- small laws that loops share
 
 pub eq_of : (v a : ℕ) → eqb v a ≡ true → v ≡ a
 eq_of v a e = eqb→eq v a (subst T (sym e) tt)
 
-pub not_last : (x n : ℕ) → x < n + 1 → (x ≡ n → ⊥) → x < n
-not_last x n g u = omega arith
+-- ---- a loop that looks at n of some bytes
 
--- ---- a loop that looks at n bytes from `first` on
+pub record Lying (t : List ℕ) (some : Bool) (n : ℕ) : Type 0 where
+  pub none : some ≡ false → (x : ℕ) → x < n → get_or t x 0 ≡ 0
 
-pub record Lying (t : List ℕ) (first : ℕ) (some : Bool) (n : ℕ) : Type 0 where
-  pub most : n ≤ 4096
-  pub none : some ≡ false → (x : ℕ) → x < n → get_or t (first + x) 0 ≡ 0
+pub lying_none : (t : List ℕ) → Lying t false 0
+lying_none t = record { none = λ e x h. absurd (omega arith) }
 
-pub lying_none : (t : List ℕ) (first : ℕ) → Lying t first false 0
-lying_none t first = record { most = omega arith; none = λ e x h. absurd (omega arith) }
-
-pub lying_more : (t : List ℕ) (first : ℕ) (some : Bool) (n : ℕ) → n < 4096 → Lying t first some n → Lying t first (some || not (eqb (get_or t (first + n) 0) 0)) (n + 1)
-lying_more t first some n h a = record {
-  most = omega arith;
+pub lying_more : (t : List ℕ) (some : Bool) (n : ℕ) → Lying t some n → Lying t (some || not (eqb (get_or t n 0) 0)) (n + 1)
+lying_more t some n a = record {
   none = λ e x g.
-      let q = or_false some (not (eqb (get_or t (first + n) 0) 0)) e in
+      let q = or_false some (not (eqb (get_or t n 0) 0)) e in
       dec_eq x n
-      (λ u. ap (λ (y : ℕ). get_or t (first + y) 0) u ∙ eq_of (get_or t (first + n) 0) 0 (not_false (eqb (get_or t (first + n) 0) 0) q.1))
+      (λ u. ap (λ (y : ℕ). get_or t y 0) u ∙ eq_of (get_or t n 0) 0 (not_false (eqb (get_or t n 0) 0) q.1))
       (λ u. a.none q.0 x (not_last x n g u));
 }

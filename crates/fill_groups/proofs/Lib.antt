@@ -1,1 +1,2 @@
 pub mod Cover
+pub mod Lines

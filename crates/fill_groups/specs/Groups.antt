@@ -3,6 +3,8 @@ use Rattle.std.specs.Prelude.{true, ◌⊎◌, ◌≡◌, List, ℕ, ◌+◌, �
 use Rattle.grid.specs.declared.Axes.{Axes}
 use Rattle.grid.specs.declared.Cell.{Cell}
 use Rattle.grid.specs.Grid.{InGrid, at}
+use Rattle.fill_groups.specs.declared.Axis.{Axis}
+use Rattle.fill_groups.specs.declared.Axis.TheVariants.{I, J, K}
 use Rattle.fill_walks.specs.declared.Phase.{Phase}
 use Rattle.fill_walks.specs.Scan.{is_walker}
 use Rattle.fill_walks.specs.Quiet.{Quiet}
@@ -16,6 +18,38 @@ place_at i j k = ((i + 15) / 16 * 16 + k / 16) * 256 + j
 
 abbrev pub place_of : Cell → ℕ
 place_of c = place_at c.i c.j c.k
+
+-- a cell that has a place in the table
+pub record InTable (c : Cell) : Type 0 where
+  pub i_in : c.i < 256
+  pub j_in : c.j < 256
+  pub k_in : c.k < 256
+
+-- ---- the line along an axis through a cell
+
+-- its cell at x
+abbrev pub moved : Axis → Cell → ℕ → Cell
+moved I c x = record { i = x; j = c.j; k = c.k }
+moved J c x = record { i = c.i; j = x; k = c.k }
+moved K c x = record { i = c.i; j = c.j; k = x }
+
+-- where on it the cell stands, how many cells it has, and how far apart their numbers are
+abbrev pub coordinate : Axis → Cell → ℕ
+coordinate I c = c.i
+coordinate J c = c.j
+coordinate K c = c.k
+
+abbrev pub extent : Axis → Axes → ℕ
+extent I r = r.r0
+extent J r = r.r1
+extent K r = r.r2
+
+abbrev pub stride : Axis → Axes → ℕ
+stride I r = 1
+stride J r = r.r0
+stride K r = r.r0 * r.r1
+
+-- ---- what a table covers
 
 -- the byte at place n is raised
 pub record Up (t : List ℕ) (n : ℕ) : Type 0 where

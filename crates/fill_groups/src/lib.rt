@@ -4,9 +4,16 @@
 #![tactic(auto)]
 
 ghost use Rattle.std.specs.Prelude.{false, ◌≡◌, ℕ, ◌+◌, ◌*◌, ◌≤◌, ◌<◌, length, get_or};
-ghost use Rattle.fill_groups.specs.Groups.{table_length, place_at, Up, Raises};
+ghost use Rattle.fill_groups.specs.Groups.{InTable, table_length, place_at, place_of, moved, Up, Raises};
 
-use grid::AXIS_MOST;
+use grid::{AXIS_MOST, Cell};
+
+#[derive(Clone, Copy)]
+pub enum Axis {
+    I,
+    J,
+    K,
+}
 
 // A group has so many cells along i, and along k; a walk of 64 cells passes four of them.
 pub const GROUP: usize = 16;
@@ -34,46 +41,40 @@ fn raise(table: &mut [u8], from: usize, stride: usize, count: usize)
     ensures raises { Raises table.old table.new }
     ensures by_index { (s : ℕ) → s < count → Up table.new (from + s * stride) }
 {
-    let mut n = from;
-    let mut left = count;
-    while 0 < left {
-        table[n] = 1;
-        n += stride;
-        left -= 1;
+    for n in 0..count {
+        table[from + n * stride] = 1;
     }
 }
 
-// The groups of the cells from `low` to `high` along i, and so along j and along k.
-pub fn raise_i(table: &mut [u8], low: usize, high: usize, j: usize, k: usize)
-    requires { (length table.old ≡ table_length) × (low ≤ high) × (high < 256) × (j < 256) × (k < 256) }
-    ensures raises { Raises table.old table.new }
-    ensures by_index { (i : ℕ) → low ≤ i → i ≤ high → Up table.new (place_at i j k) }
+// The cell on the line along an axis through c that stands at x on it.
+fn moved(axis: Axis, c: Cell, x: usize) -> Cell
+    ensures { result ≡ moved axis c x }
 {
-    let n = place(low, j, k);
-    raise(
-        table,
-        n,
-        BLOCK,
-        (high + GROUP_LESS_ONE) / GROUP - (low + GROUP_LESS_ONE) / GROUP + 1,
-    );
+    match axis {
+        Axis::I => Cell { i: x, ..c },
+        Axis::J => Cell { j: x, ..c },
+        Axis::K => Cell { k: x, ..c },
+    }
 }
 
-pub fn raise_j(table: &mut [u8], i: usize, low: usize, high: usize, k: usize)
-    requires { (length table.old ≡ table_length) × (low ≤ high) × (high < 256) × (i < 256) × (k < 256) }
+// The groups of the cells from `low` to `high` on the line along an axis through c.
+pub fn raise_along(table: &mut [u8], axis: Axis, c: Cell, low: usize, high: usize)
+    requires { (length table.old ≡ table_length) × (low ≤ high) × (high < 256) × InTable (moved axis c high) }
     ensures raises { Raises table.old table.new }
-    ensures by_index { (j : ℕ) → low ≤ j → j ≤ high → Up table.new (place_at i j k) }
+    ensures by_index { (x : ℕ) → low ≤ x → x ≤ high → Up table.new (place_of (moved axis c x)) }
 {
-    let n = place(i, low, k);
-    raise(table, n, 1, high - low + 1);
-}
-
-pub fn raise_k(table: &mut [u8], i: usize, j: usize, low: usize, high: usize)
-    requires { (length table.old ≡ table_length) × (low ≤ high) × (high < 256) × (i < 256) × (j < 256) }
-    ensures raises { Raises table.old table.new }
-    ensures by_index { (k : ℕ) → low ≤ k → k ≤ high → Up table.new (place_at i j k) }
-{
-    let n = place(i, j, low);
-    raise(table, n, AXIS_MOST, high / GROUP - low / GROUP + 1);
+    let first = moved(axis, c, low);
+    let n = place(first.i, first.j, first.k);
+    match axis {
+        Axis::I => raise(
+            table,
+            n,
+            BLOCK,
+            high.div_ceil(GROUP) - low.div_ceil(GROUP) + 1,
+        ),
+        Axis::J => raise(table, n, 1, high - low + 1),
+        Axis::K => raise(table, n, AXIS_MOST, high / GROUP - low / GROUP + 1),
+    }
 }
 
 // Whether a group of the block of slab i is raised.
@@ -82,11 +83,10 @@ pub fn some_raised(table: &[u8], i: usize) -> bool
     ensures { result ≡ false → (j k : ℕ) → j < 256 → k < 256 → get_or table.now (place_at i j k) 0 ≡ 0 }
 {
     let first = place(i, 0, 0);
+    let block = &table[first..first + BLOCK];
     let mut some = false;
-    let mut n = 0usize;
-    while n < BLOCK {
-        some = some | (table[first + n] != 0);
-        n += 1;
+    for group in block {
+        some |= *group != 0;
     }
     some
 }

@@ -31,14 +31,12 @@ fn scan_row(
 {
     let all = r.r2;
     let mut walked = before;
-    let mut g = 0usize;
-    while fill_groups::GROUP * g < all {
+    for g in 0..all.div_ceil(fill_groups::GROUP) {
         let from = fill_groups::GROUP * g;
-        let to = fill_walks::smaller(from + fill_groups::GROUP, all);
-        g += 1;
         if table[fill_groups::place(i, j, from)] == 0 {
             continue;
         }
+        let to = (from + fill_groups::GROUP).min(all);
         walked = fill_visits::visit_stretch(l, table, p, r, Cell { i, j, k: from }, to, walked);
     }
     walked
@@ -50,12 +48,9 @@ fn scan_slab(l: &mut [u8], table: &mut [u8], p: Phase, r: Axes, i: usize, before
     ensures result_after { record { labels = l.new; walked = result } ≡ slabbed p r i (record { labels = l.old; walked = before }) }
     ensures upper_bound { (result ≤ before + 65536) × Covers p r l.new table.new }
 {
-    let all = r.r1;
     let mut walked = before;
-    let mut j = 0usize;
-    while j < all {
+    for j in 0..r.r1 {
         walked = scan_row(l, table, p, r, i, j, walked);
-        j += 1;
     }
     walked
 }
@@ -73,12 +68,9 @@ fn scan_slabs(
     ensures result_after { record { labels = l.new; walked = result } ≡ in_turn (λ i. slabbed p r i) (slabs.to - slabs.from) slabs.from (record { labels = l.old; walked = before }) }
     ensures from_bound { (result + 65536 * slabs.from ≤ before + 65536 * slabs.to) × Covers p r l.new table.new }
 {
-    let end = slabs.to;
     let mut walked = before;
-    let mut i = slabs.from;
-    while i < end {
+    for i in slabs.from..slabs.to {
         walked = scan_slab(l, table, p, r, i, walked);
-        i += 1;
     }
     walked
 }
@@ -114,18 +106,12 @@ fn scan(l: &mut [u8], table: &mut [u8], p: Phase, r: Axes) -> usize
     ensures covers { Covers p r l.new table.new }
 {
     let all = r.r0;
-    let mut walked = 0usize;
-    let mut first = 0usize;
-    let mut b = 0usize;
-    while first < all {
-        let end = fill_walks::smaller(fill_groups::GROUP * b + 1, all);
-        let slabs = Stretch {
-            from: first,
-            to: end,
-        };
-        walked = scan_block(l, table, p, r, slabs, walked);
-        first = end;
-        b += 1;
+    let mut walked = 0;
+    let mut from = 0;
+    for b in 0..=(all - 1).div_ceil(fill_groups::GROUP) {
+        let to = (fill_groups::GROUP * b + 1).min(all);
+        walked = scan_block(l, table, p, r, Stretch { from, to }, walked);
+        from = to;
     }
     walked
 }

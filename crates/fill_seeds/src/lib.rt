@@ -40,14 +40,8 @@ fn seed_layer(labels: &mut [u8], r: Axes, k: usize, first: usize)
     requires k_lt_r2 { (k < r.r2) × (first ≡ k * (r.r0 * r.r1)) }
     ensures { Within first (first + r.r0 * r.r1) (seed_at r) labels.old labels.new }
 {
-    let n = r.r1;
-    let row = r.r0;
-    let mut at = first;
-    let mut j = 0usize;
-    while j < n {
-        seed_row(labels, r, j, k, at);
-        at += row;
-        j += 1;
+    for j in 0..r.r1 {
+        seed_row(labels, r, j, k, first + j * r.r0);
     }
 }
 
@@ -55,13 +49,8 @@ pub fn seed(labels: &mut [u8], r: Axes)
     requires { Sheet r labels.old }
     ensures { labels.new ≡ seeded r labels.old }
 {
-    let n = r.r2;
     let layer = r.r0 * r.r1;
-    let mut at = 0usize;
-    let mut k = 0usize;
-    while k < n {
-        seed_layer(labels, r, k, at);
-        at += layer;
-        k += 1;
+    for k in 0..r.r2 {
+        seed_layer(labels, r, k, k * layer);
     }
 }

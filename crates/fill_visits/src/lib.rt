@@ -3,62 +3,57 @@
 #![tactic(auto)]
 
 ghost use Rattle.std.specs.Prelude.{◌≡◌, ◌+◌, ◌*◌, ◌-◌, ◌≤◌, ◌<◌};
-ghost use Rattle.grid.specs.Grid.{num, InGrid, Sheet};
+ghost use Rattle.grid.specs.Grid.{num, InGrid, Sound, Sheet};
 ghost use Rattle.fill_walks.specs.Scan.{walked_from, visited, in_turn, Countable};
 ghost use Rattle.fill_walks.specs.Rays.{walked_both};
 ghost use Rattle.fill_walks.specs.Quiet.{Clear};
-ghost use Rattle.fill_groups.specs.Groups.{Covers};
+ghost use Rattle.fill_groups.specs.Groups.{coordinate, extent, stride, Covers};
 
+use fill_groups::Axis;
 use fill_walks::Phase;
 use grid::{Axes, Cell};
 
+// A line of cells along an axis: how far apart their numbers are, where a cell stands on it, and of how many.
+#[derive(Clone, Copy)]
+struct Line {
+    stride: usize,
+    at: usize,
+    of: usize,
+}
+
+fn line_along(axis: Axis, r: Axes, c: Cell) -> Line
+    requires { Sound r }
+    ensures { result ≡ record { stride = stride axis r; at = coordinate axis c; of = extent axis r } }
+{
+    match axis {
+        Axis::I => Line {
+            stride: 1,
+            at: c.i,
+            of: r.r0,
+        },
+        Axis::J => Line {
+            stride: r.r0,
+            at: c.j,
+            of: r.r1,
+        },
+        Axis::K => Line {
+            stride: r.r0 * r.r1,
+            at: c.k,
+            of: r.r2,
+        },
+    }
+}
+
 // Walks from a cell, whose number is `n`, up an axis and down; the groups of what they pass are raised.
-fn along_k(l: &mut [u8], table: &mut [u8], p: Phase, r: Axes, c: Cell, n: usize)
+fn along(l: &mut [u8], table: &mut [u8], p: Phase, r: Axes, axis: Axis, c: Cell, n: usize)
     requires sheet { Sheet r l.old × Clear p × Covers p r l.old table.old }
     requires in_grid { InGrid r c × (n ≡ num r c) }
-    ensures l_after { l.new ≡ walked_both p n (r.r0 * r.r1) c.k r.r2 l.old }
+    ensures l_after { l.new ≡ walked_both p n (stride axis r) (coordinate axis c) (extent axis r) l.old }
     ensures covers { Covers p r l.new table.new }
 {
-    let i = c.i;
-    let j = c.j;
-    let k = c.k;
-    let all = r.r2;
-    let w = fill_walks::both_ways(l, p, n, r.r0 * r.r1, k, all);
-    let low = k - w.down;
-    let high = k + w.up;
-    fill_groups::raise_k(table, i, j, low, high);
-}
-
-fn along_j(l: &mut [u8], table: &mut [u8], p: Phase, r: Axes, c: Cell, n: usize)
-    requires sheet { Sheet r l.old × Clear p × Covers p r l.old table.old }
-    requires in_grid { InGrid r c × (n ≡ num r c) }
-    ensures l_after { l.new ≡ walked_both p n r.r0 c.j r.r1 l.old }
-    ensures covers { Covers p r l.new table.new }
-{
-    let i = c.i;
-    let j = c.j;
-    let k = c.k;
-    let all = r.r1;
-    let w = fill_walks::both_ways(l, p, n, r.r0, j, all);
-    let low = j - w.down;
-    let high = j + w.up;
-    fill_groups::raise_j(table, i, low, high, k);
-}
-
-fn along_i(l: &mut [u8], table: &mut [u8], p: Phase, r: Axes, c: Cell, n: usize)
-    requires sheet { Sheet r l.old × Clear p × Covers p r l.old table.old }
-    requires in_grid { InGrid r c × (n ≡ num r c) }
-    ensures l_after { l.new ≡ walked_both p n 1 c.i r.r0 l.old }
-    ensures covers { Covers p r l.new table.new }
-{
-    let i = c.i;
-    let j = c.j;
-    let k = c.k;
-    let all = r.r0;
-    let w = fill_walks::both_ways(l, p, n, 1, i, all);
-    let low = i - w.down;
-    let high = i + w.up;
-    fill_groups::raise_i(table, low, high, j, k);
+    let a = line_along(axis, r, c);
+    let w = fill_walks::both_ways(l, p, n, a.stride, a.at, a.of);
+    fill_groups::raise_along(table, axis, c, a.at - w.down, a.at + w.up);
 }
 
 // The six ways from a cell, whose number is `n`.
@@ -68,9 +63,9 @@ fn walks(l: &mut [u8], table: &mut [u8], p: Phase, r: Axes, c: Cell, n: usize)
     ensures l_after { l.new ≡ walked_from p r c l.old }
     ensures covers { Covers p r l.new table.new }
 {
-    along_k(l, table, p, r, c, n);
-    along_j(l, table, p, r, c, n);
-    along_i(l, table, p, r, c, n);
+    along(l, table, p, r, Axis::K, c, n);
+    along(l, table, p, r, Axis::J, c, n);
+    along(l, table, p, r, Axis::I, c, n);
 }
 
 // Visits a cell, whose number is `n`; answers how many cells are walked by then.
@@ -95,8 +90,7 @@ fn visit(
         walks(l, table, p, r, c, n);
         return walked + 1;
     }
-    let walkers = p.walkers;
-    if fill_walks::is_walker(walkers, v) {
+    if fill_walks::is_walker(p.walkers, v) {
         walks(l, table, p, r, c, n);
     }
     walked
@@ -119,20 +113,14 @@ pub fn visit_stretch(
 {
     let i = first.i;
     let j = first.j;
-    let from = first.k;
     let layer = r.r0 * r.r1;
     let mut walked = before;
-    let mut next = i + j * r.r0 + from * layer;
-    let mut k = from;
-    while k < to {
-        let c = Cell { i, j, k };
-        let n = next;
-        next += layer;
-        k += 1;
-        if fill_walks::is_idle(p, l[n]) {
-            continue;
+    let mut n = i + j * r.r0 + first.k * layer;
+    for k in first.k..to {
+        if !fill_walks::is_idle(p, l[n]) {
+            walked = visit(l, table, p, r, Cell { i, j, k }, n, walked);
         }
-        walked = visit(l, table, p, r, c, n, walked);
+        n += layer;
     }
     walked
 }

@@ -3,16 +3,15 @@ use mathlib.Core.Bool.{Bool, cond}
 use mathlib.Core.Path.{◌≡◌, refl, sym, ap, subst, ◌∙◌}
 use mathlib.Core.List.{List, ◌∷◌}
 use Prim.Native.Nat.{ℕ, zero, suc, ◌+◌, ◌*◌, ◌-◌, ◌≤◌, ◌<◌, min}
-use native.Mathlib.Nat.{suc-mul, add-mul, mul-le-mul_right, sub-zero}
+use native.Mathlib.Nat.{suc-mul, mul-le-mul_right, sub-zero}
 use native.Mathlib.Omega.{arith}
 use lib.Dec.{eqb}
 use lib.ListN.{get_or, set}
 use borrow.Author.Tests.{eq-eqb, ne_eqb}
 use Rattle.grid.specs.declared.Axes.{Axes}
 use Rattle.grid.specs.declared.Cell.{Cell}
-use Rattle.grid.specs.Grid.{num, cells, InGrid}
+use Rattle.grid.specs.Grid.{num}
 use Rattle.grid.specs.Ways.{Way, up_k, down_k, up_j, down_j, up_i, down_i, room, beside}
-use Rattle.grid.proofs.Cells.{num_lt}
 use Rattle.grid.proofs.Ways.{adds, takes_off, beside_num, beside_room}
 use Rattle.fill_walks.specs.declared.Phase.{Phase}
 use Rattle.fill_walks.specs.Scan.{walked_for, walked_to, walked_over, walked_from}
@@ -85,38 +84,6 @@ module _ (c s a n len : ℕ) (h : LineFits c s a n len) where
 
   pub span_down : (m : ℕ) → m ≤ a → Along len c 0 s m
   span_down m g = along_down len c s m span_here (omega (arith, h.low, mul-le-mul_right s g))
-
--- the three axes through a cell
-module _ (r : Axes) (c : Cell) (h : InGrid r c) (len : ℕ) (e : len ≡ cells r) where
-  pub span_k : r.r0 * r.r1 ≤ 65536 → LineFits (num r c) (r.r0 * r.r1) c.k r.r2 len
-  span_k m = record {
-    step = m;
-    inside = h.k_in;
-    low = omega arith;
-    high =
-        let last : Cell = record { i = c.i; j = c.j; k = c.k + (r.r2 - (c.k + 1)) } in
-        omega (arith, e, add-mul c.k (r.r2 - (c.k + 1)) (r.r0 * r.r1), num_lt r last (record { i_in = h.i_in; j_in = h.j_in; k_in = omega (arith, h.k_in) }));
-  }
-
-  pub span_j : r.r0 ≤ 65536 → LineFits (num r c) r.r0 c.j r.r1 len
-  span_j m = record {
-    step = m;
-    inside = h.j_in;
-    low = omega arith;
-    high =
-        let last : Cell = record { i = c.i; j = c.j + (r.r1 - (c.j + 1)); k = c.k } in
-        omega (arith, e, add-mul c.j (r.r1 - (c.j + 1)) r.r0, num_lt r last (record { i_in = h.i_in; j_in = omega (arith, h.j_in); k_in = h.k_in }));
-  }
-
-  pub span_i : LineFits (num r c) 1 c.i r.r0 len
-  span_i = record {
-    step = omega arith;
-    inside = h.i_in;
-    low = omega arith;
-    high =
-        let last : Cell = record { i = c.i + (r.r0 - (c.i + 1)); j = c.j; k = c.k } in
-        omega (arith, e, num_lt r last (record { i_in = omega (arith, h.i_in); j_in = h.j_in; k_in = h.k_in }));
-  }
 
 -- ---- a walk by numbers is the walk by cells
 

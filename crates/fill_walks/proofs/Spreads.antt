@@ -9,6 +9,7 @@ use lib.Dec.{eqb}
 use lib.ListN.{length, set, length-set}
 use lib.Seq.{set-get_or}
 use borrow.Author.Tests.{eq-eqb, ne_eqb}
+use Rattle.std.specs.Prelude.{Option}
 use Rattle.grid.specs.declared.Axes.{Axes}
 use Rattle.grid.specs.declared.Cell.{Cell}
 use Rattle.grid.specs.Grid.{num, cells, InGrid, at, Face}
@@ -18,7 +19,6 @@ use Rattle.grid.proofs.Cells.{dec_eq, here, stored, by_cell}
 use Rattle.grid.proofs.Paths.{joined_in}
 use Rattle.grid.proofs.Ways.{beside_in, beside_face, beside_room, face_way}
 use Rattle.fill_walks.specs.declared.Phase.{Phase}
-use Rattle.fill_walks.specs.declared.Walkers.{Walkers}
 use Rattle.fill_walks.specs.Scan.{State, is_walker, walked_for, walked_to, walked_over, walked_from, visited, in_turn, scanned}
 use Rattle.fill_walks.specs.Run.{Run, done, more}
 use Rattle.fill_walks.specs.Spread.{Plain, Reached, Spread}
@@ -168,7 +168,7 @@ module _ (p : Phase) (pl : Plain p) (r : Axes) (m : List ℕ) where
 
   -- nobody walks uncounted
   no_walker : (v : ℕ) → is_walker p.walkers v ≡ true → ⊥
-  no_walker v e = true≢false (sym e ∙ ap (λ (w : Walkers). is_walker w v) pl.nobody)
+  no_walker v e = true≢false (sym e ∙ ap (λ (w : Option ℕ). is_walker w v) pl.nobody)
 
   visit_stands : (c : Cell) → InGrid r c → (s : State) → Stands p r m s.labels → Stands p r m (visited p r c s).labels
   visit_stands c h s a =

@@ -1,13 +1,11 @@
 -- 01, Fill: walks, visits and scans of a phase, as 01 tells them. Definitions only.
-use Rattle.std.specs.Prelude.{Bool, false, cond, List, [], ◌∷◌, ℕ, zero, suc, ◌+◌, min, ◌^◌, ◌≤◌, eqb, set}
+use Rattle.std.specs.Prelude.{Bool, false, cond, Option, Some, None, List, [], ◌∷◌, ℕ, zero, suc, ◌+◌, min, ◌^◌, ◌≤◌, eqb, set}
 use Rattle.grid.specs.declared.Axes.{Axes}
 use Rattle.grid.specs.declared.Cell.{Cell}
 use Rattle.grid.specs.Grid.{num, at}
 use Rattle.grid.specs.Ways.{Way, ways, room, beside}
 use Rattle.grid.specs.Labels.{SURFACE}
 use Rattle.fill_walks.specs.declared.Phase.{Phase}
-use Rattle.fill_walks.specs.declared.Walkers.{Walkers}
-use Rattle.fill_walks.specs.declared.Walkers.TheVariants.{Nobody, Those}
 
 -- ---- a walk
 
@@ -39,9 +37,9 @@ walked_from p r c l = walked_over p r ways c l
 -- ---- a scan
 
 -- whether a label is the phase's walking surface label
-abbrev pub is_walker : Walkers → ℕ → Bool
-is_walker Nobody v = false
-is_walker (Those s) v = eqb v s
+abbrev pub is_walker : Option ℕ → ℕ → Bool
+is_walker None v = false
+is_walker (Some s) v = eqb v s
 
 -- labels, and how many cells were walked
 pub record State : Type 0 where

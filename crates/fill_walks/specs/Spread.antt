@@ -1,18 +1,17 @@
 -- What a phase does that has no walkers and marks no surface, told by paths. Definitions only.
-use Rattle.std.specs.Prelude.{◌⊎◌, ◌≡◌, List, ℕ, length}
+use Rattle.std.specs.Prelude.{◌⊎◌, ◌≡◌, None, List, ℕ, length}
 use Rattle.grid.specs.declared.Axes.{Axes}
 use Rattle.grid.specs.declared.Cell.{Cell}
 use Rattle.grid.specs.Grid.{InGrid, at}
 use Rattle.grid.specs.Paths.{Joined}
 use Rattle.grid.specs.Labels.{SURFACE}
 use Rattle.fill_walks.specs.declared.Phase.{Phase}
-use Rattle.fill_walks.specs.declared.Walkers.TheVariants.{Nobody}
 use Rattle.fill_walks.specs.Run.{Proper}
 
 -- such a phase
 pub record Plain (p : Phase) : Type 0 where
   pub proper : Proper p
-  pub nobody : p.walkers ≡ Nobody
+  pub nobody : p.walkers ≡ None
   pub unmarked : p.mark ≡ SURFACE
   pub apart : p.pass ≡ p.todo → ⊥
 

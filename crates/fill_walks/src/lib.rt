@@ -2,7 +2,7 @@
 // until a scan walked none. The crate `fill_scans` runs one.
 #![tactic(auto)]
 
-ghost use Rattle.std.specs.Prelude.{true, false, ◌≡◌, ◌+◌, ◌≤◌, ◌<◌, min, length};
+ghost use Rattle.std.specs.Prelude.{true, false, ◌≡◌, ◌+◌, ◌≤◌, ◌<◌, length};
 ghost use Rattle.fill_walks.specs.Scan.{is_walker};
 ghost use Rattle.fill_walks.specs.Rays.{ray, Along, walked_along, LineFits, walked_both};
 ghost use Rattle.fill_walks.specs.Quiet.{Trailed, Swept};
@@ -12,21 +12,15 @@ use grid::SURFACE;
 // A walk stops after so many cells in each direction.
 const WALK_MOST: usize = 64;
 
-// Which surface cells walk in a phase: none, or those with one label.
-#[derive(Clone, Copy)]
-pub enum Walkers {
-    Nobody,
-    Those(u8),
-}
-
 // A phase by its labels: the one that its walks pass, its to-walk label, which a passed cell takes, and its
-// set label; which surface cells walk, and the label that a surface cell takes that a walk meets.
+// set label; the label of the surface cells that walk, if any do, and the label that a surface cell takes
+// that a walk meets.
 #[derive(Clone, Copy)]
 pub struct Phase {
     pub pass: u8,
     pub todo: u8,
     pub done: u8,
-    pub walkers: Walkers,
+    pub walkers: Option<u8>,
     pub mark: u8,
 }
 
@@ -40,29 +34,19 @@ fn walk(l: &mut [u8], p: Phase, from: usize, add: usize, sub: usize, count: usiz
     let pass = p.pass;
     let todo = p.todo;
     let mut at = from;
-    let mut left = count;
-    while 0 < left {
+    for n in 0..count {
         at = at + add - sub;
         let v = l[at];
         if v != pass {
-            let n = count - left;
             let surface = v == SURFACE;
             if surface {
                 l[at] = p.mark;
-                return n;
             }
             return n;
         }
         l[at] = todo;
-        left -= 1;
     }
     count
-}
-
-pub fn smaller(a: usize, b: usize) -> usize
-    ensures { result ≡ min a b }
-{
-    if a < b { a } else { b }
 }
 
 // How many cells two walks passed, up an axis and down it.
@@ -78,30 +62,20 @@ pub fn both_ways(l: &mut [u8], p: Phase, from: usize, stride: usize, a: usize, n
     ensures l_after { l.new ≡ walked_both p from stride a n l.old }
     ensures swept { Swept p from stride result.up result.down l.old l.new × (a + result.up < n) × (result.down ≤ a) }
 {
-    let up = walk(l, p, from, stride, 0, smaller(n - (a + 1), WALK_MOST));
-    let down = walk(l, p, from, 0, stride, smaller(a, WALK_MOST));
+    let up = walk(l, p, from, stride, 0, (n - (a + 1)).min(WALK_MOST));
+    let down = walk(l, p, from, 0, stride, a.min(WALK_MOST));
     Passed { up, down }
 }
 
-pub fn is_walker(w: Walkers, label: u8) -> bool
-    ensures { result ≡ is_walker w label }
+pub fn is_walker(walkers: Option<u8>, label: u8) -> bool
+    ensures { result ≡ is_walker walkers label }
 {
-    match w {
-        Walkers::Nobody => false,
-        Walkers::Those(s) => label == s,
-    }
+    walkers == Some(label)
 }
 
 // Whether a visit of a cell with this label changes nothing.
 pub fn is_idle(p: Phase, label: u8) -> bool
     ensures { result ≡ true → (label ≡ p.todo → ⊥) × (is_walker p.walkers label ≡ false) }
 {
-    if label == p.todo {
-        return false;
-    }
-    let walkers = p.walkers;
-    if is_walker(walkers, label) {
-        return false;
-    }
-    true
+    label != p.todo && !is_walker(p.walkers, label)
 }

@@ -5,8 +5,14 @@ use mathlib.Core.List.{List, [], ◌∷◌, map}
 use Prim.Native.Nat.{ℕ, zero, suc, ◌+◌, ◌≤◌, ◌<◌, zero-le}
 use native.Mathlib.Omega.{arith}
 use lib.ListN.{length, get_or, set, drop, drop_of_length-le}
+use mir.Val.{bool_byte}
 use Rattle.grid.specs.Counts.{count}
 use Rattle.grid.proofs.First.{drop_next}
+
+-- a test as a number
+pub one_if : (b : Bool) → bool_byte b ≡ cond b 1 0
+one_if true = refl
+one_if false = refl
 
 one_most : (b : Bool) → cond b 1 0 ≤ 1
 one_most true = omega arith

@@ -69,9 +69,11 @@ module _ {A : Type 0} (ok : A → Bool) (d : A) (xs : List A) where
               ∙ sym (and_assoc b v (every ok (drop (i + 1) xs)));
         }
 
-  pub looking_done : (i : ℕ) → length xs ≤ i → Looking ok xs i → i ≡ first_not ok xs
+  pub looking_done : (i : ℕ) → length xs ≤ i → Looking ok xs i → length xs ≡ first_not ok xs
   unfolding first_not
-  looking_done i h w = sym (w.rest ∙ ap (λ (l : List A). i + first_not ok l) (drop_of_length-le xs h) ∙ add-zero i)
+  looking_done i h w =
+      let end : length xs ≡ i = omega (arith, w.within) in
+      end ∙ sym (w.rest ∙ ap (λ (l : List A). i + first_not ok l) (drop_of_length-le xs h) ∙ add-zero i)
 
   pub passing_done : (b : Bool) (i : ℕ) → length xs ≤ i → Passing ok xs b i → b ≡ every ok xs
   unfolding every

@@ -1,29 +1,28 @@
 -- The refusals 8, 9 and 11 of 01's table. Definitions only.
-use Rattle.std.specs.Prelude.{ℕ, Bool, not, ◌&&◌, ◌||◌, List, eqb, ltb, leb, length}
+use Rattle.std.specs.Prelude.{Ok, ℕ, Bool, not, ◌&&◌, ◌||◌, List, eqb, ltb, leb, length}
 use Rattle.grid.specs.declared.Axes.{Axes}
-use Rattle.grid.specs.declared.Checked.{Checked}
-use Rattle.grid.specs.declared.Checked.TheVariants.{Fine}
+use Rattle.grid.specs.declared.Reason.{Reason}
+use Rattle.grid.specs.declared.Reason.TheVariants.{BadAxis, BadBuffer, BadLabel}
 use Rattle.grid.specs.declared.LabelSet.{LabelSet}
 use Rattle.grid.specs.declared.LabelRange.{LabelRange}
-use Rattle.grid.specs.Answers.{fault_if, ◌and_then◌}
+use Rattle.grid.specs.Answers.{Checked, fault_if, ◌and_then◌}
 use Rattle.grid.specs.First.{first_not}
 use Rattle.grid.specs.Grid.{cells}
-use Rattle.grid.specs.Refusals.{BAD_AXIS, BAD_BUFFER, BAD_LABEL}
 
--- number n where some element of a list fails a test: its place is made of the first such element's
-abbrev pub first_fault : {A : Type 0} → ℕ → (ℕ → ℕ) → (A → Bool) → List A → Checked
-first_fault n place ok xs = fault_if (ltb (first_not ok xs) (length xs)) n (place (first_not ok xs)) Fine
+-- a refusal where some element of a list fails a test: its place is made of the first such element's
+abbrev pub first_fault : {A : Type 0} → Reason → (ℕ → ℕ) → (A → Bool) → List A → Checked
+first_fault reason place ok xs = fault_if (ltb (first_not ok xs) (length xs)) reason (place (first_not ok xs)) (Ok tt)
 
 -- "8: an axis of 0 or more than 256 cells"; the place is the axis
 abbrev pub bad_axis : ℕ → Bool
 bad_axis n = eqb n 0 || ltb 256 n
 
 abbrev pub axes_fault : Axes → Checked
-axes_fault r = fault_if (bad_axis r.r0) BAD_AXIS 0 (fault_if (bad_axis r.r1) BAD_AXIS 1 (fault_if (bad_axis r.r2) BAD_AXIS 2 Fine))
+axes_fault r = fault_if (bad_axis r.r0) BadAxis 0 (fault_if (bad_axis r.r1) BadAxis 1 (fault_if (bad_axis r.r2) BadAxis 2 (Ok tt)))
 
 -- "9: label buffer length differs from the product of the axes"
 abbrev pub buffer_fault : Axes → ℕ → Checked
-buffer_fault r len = fault_if (not (eqb len (cells r))) BAD_BUFFER 0 Fine
+buffer_fault r len = fault_if (not (eqb len (cells r))) BadBuffer 0 (Ok tt)
 
 abbrev pub grid_fault : Axes → ℕ → Checked
 grid_fault r len = axes_fault r and_then buffer_fault r len
@@ -37,7 +36,7 @@ takes s v = in_range s.one v || in_range s.other v
 
 -- "11: a label the call does not take"; the place is the label's cell number
 abbrev pub labels_fault : LabelSet → List ℕ → Checked
-labels_fault s l = first_fault BAD_LABEL (λ n. n) (takes s) l
+labels_fault s l = first_fault BadLabel (λ n. n) (takes s) l
 
 -- the three of a map, in the order of their numbers
 abbrev pub map_fault : LabelSet → Axes → List ℕ → Checked

@@ -1,53 +1,30 @@
--- 01, Input bounds and refusals: the numbers of the table, by name. When each is given, the definition says that cites it, with its line. Definitions only.
-use Rattle.std.specs.Prelude.{ℕ}
+-- 01, Input bounds and refusals: the numbers of the table. When each reason is given, the definition says that cites it, with its line. Definitions only.
+use Rattle.std.specs.Prelude.{ℕ, List, [], ◌∷◌, get_or}
+use Rattle.grid.specs.declared.Reason.{Reason}
+use Rattle.grid.specs.declared.Reason.TheVariants.{BadCount, NoPoints, BadNumber, MissingName, BadSize, BadResolution, NoExtent, BadAxis, BadBuffer, OffGrid, BadLabel, OutOfRange, WrongKind, NoRoom, BadRange, BadRecord, CutInput}
 
-abbrev pub BAD_COUNT : ℕ
-BAD_COUNT = 1
+abbrev pub number_of : Reason → ℕ
+number_of BadCount = 1
+number_of NoPoints = 2
+number_of BadNumber = 3
+number_of MissingName = 4
+number_of BadSize = 5
+number_of BadResolution = 6
+number_of NoExtent = 7
+number_of BadAxis = 8
+number_of BadBuffer = 9
+number_of OffGrid = 10
+number_of BadLabel = 11
+number_of OutOfRange = 12
+number_of WrongKind = 13
+number_of NoRoom = 14
+number_of BadRange = 15
+number_of BadRecord = 16
+number_of CutInput = 17
 
-abbrev pub NO_POINTS : ℕ
-NO_POINTS = 2
+-- the reason that has a number: the table, from 0, which no reason has
+abbrev pub reasons : List Reason
+reasons = BadCount ∷ BadCount ∷ NoPoints ∷ BadNumber ∷ MissingName ∷ BadSize ∷ BadResolution ∷ NoExtent ∷ BadAxis ∷ BadBuffer ∷ OffGrid ∷ BadLabel ∷ OutOfRange ∷ WrongKind ∷ NoRoom ∷ BadRange ∷ BadRecord ∷ CutInput ∷ []
 
-abbrev pub BAD_NUMBER : ℕ
-BAD_NUMBER = 3
-
-abbrev pub MISSING_NAME : ℕ
-MISSING_NAME = 4
-
-abbrev pub BAD_SIZE : ℕ
-BAD_SIZE = 5
-
-abbrev pub BAD_RESOLUTION : ℕ
-BAD_RESOLUTION = 6
-
-abbrev pub NO_EXTENT : ℕ
-NO_EXTENT = 7
-
-abbrev pub BAD_AXIS : ℕ
-BAD_AXIS = 8
-
-abbrev pub BAD_BUFFER : ℕ
-BAD_BUFFER = 9
-
-abbrev pub OFF_GRID : ℕ
-OFF_GRID = 10
-
-abbrev pub BAD_LABEL : ℕ
-BAD_LABEL = 11
-
-abbrev pub OUT_OF_RANGE : ℕ
-OUT_OF_RANGE = 12
-
-abbrev pub WRONG_KIND : ℕ
-WRONG_KIND = 13
-
-abbrev pub NO_ROOM : ℕ
-NO_ROOM = 14
-
-abbrev pub BAD_RANGE : ℕ
-BAD_RANGE = 15
-
-abbrev pub BAD_RECORD : ℕ
-BAD_RECORD = 16
-
-abbrev pub CUT_INPUT : ℕ
-CUT_INPUT = 17
+abbrev pub reason_numbered : ℕ → Reason
+reason_numbered n = get_or reasons n BadCount

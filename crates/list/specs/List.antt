@@ -1,9 +1,8 @@
 -- 01, List, classes, planes, boxes: the cell list, with and without pairs. Definitions only.
-use Rattle.std.specs.Prelude.{Bool, cond, ◌||◌, List, [], ◌∷◌, ◌++◌, ℕ, ◌+◌, ◌*◌, ◌≤◌, eqb, length}
+use Rattle.std.specs.Prelude.{Bool, cond, ◌||◌, List, [], ◌∷◌, ◌++◌, ℕ, ◌+◌, ◌*◌, ◌≤◌, eqb, length, Ok}
 use Rattle.grid.specs.declared.Axes.{Axes}
 use Rattle.grid.specs.declared.Cell.{Cell}
-use Rattle.grid.specs.declared.Checked.{Checked}
-use Rattle.grid.specs.Answers.{Outcome, answers, refuses, ◌and_then◌, unless, lent_after}
+use Rattle.grid.specs.Answers.{Outcome, ◌and_then◌, lent_after, Checked}
 use Rattle.grid.specs.Grid.{at}
 use Rattle.grid.specs.Checks.{map_fault}
 use Rattle.grid.specs.Labels.{INSIDE, SURFACE}
@@ -11,13 +10,6 @@ use Rattle.order.specs.Order.{in_order, keep, known_labels}
 use Rattle.order.specs.Output.{room_fault, over}
 use Rattle.list_record.specs.Record.{width, numbers_of}
 use Rattle.list.specs.declared.ListCounts.{ListCounts}
-use Rattle.list.specs.declared.Listing.{Listing}
-use Rattle.list.specs.declared.Listing.TheVariants.{Listed, Refused}
-
--- 01's number and values for each case of `Listing`: how many cells and pairs are listed
-abbrev pub outcome : Listing → Outcome ListCounts
-outcome (Listed n) = answers n
-outcome (Refused f) = refuses f.number f.place
 
 -- "List: cells 7 and 8, i outermost, k innermost; other labels are omitted"
 abbrev pub is_listed : ℕ → Bool
@@ -63,7 +55,7 @@ abbrev pub cells_fault : List ℕ → Axes → ℕ → Checked
 cells_fault l r len = map_fault known_labels r l and_then room_fault len (length (listed r l) * width)
 
 abbrev pub cells_answer : List ℕ → Axes → List ℕ → Outcome ListCounts
-cells_answer l r o = unless (cells_fault l r (length o)) (answers (record { cells = length (listed r l); pairs = 0 }))
+cells_answer l r o = cells_fault l r (length o) and_then Ok (record { cells = length (listed r l); pairs = 0 })
 
 abbrev pub cells_buffer : List ℕ → Axes → List ℕ → List ℕ
 cells_buffer l r o = lent_after (cells_fault l r (length o)) o (over (plain_records r l) o)

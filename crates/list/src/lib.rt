@@ -1,14 +1,14 @@
 // The cell list without pairs: a record for each cell 7 and 8, in list order.
 #![tactic(auto)]
 
-ghost use Rattle.std.specs.Prelude.{cond, ◌≡◌, ◌+◌, ◌*◌, ◌≤◌, ◌<◌, length};
+ghost use Rattle.std.specs.Prelude.{◌≡◌, ◌+◌, ◌*◌, ◌≤◌, ◌<◌, length};
 ghost use Rattle.grid.specs.Grid.{Sheet};
 ghost use Rattle.order.specs.Order.{row, rows};
 ghost use Rattle.order.specs.Output.{Written};
 ghost use Rattle.list_record.specs.Record.{width};
-ghost use Rattle.list.specs.List.{is_listed, flag_of, listed, listed_in, plain_in, RoomFrom, plain_records, outcome, cells_answer, cells_buffer};
+ghost use Rattle.list.specs.List.{is_listed, flag_of, listed, listed_in, plain_in, RoomFrom, plain_records, cells_answer, cells_buffer};
 
-use grid::{Axes, Cell, Checked, INSIDE, Refusal, SURFACE};
+use grid::{Axes, Cell, INSIDE, Refusal, SURFACE};
 use list_record::CellRecord;
 
 // How many cells are listed, and how many pairs of a cell and a triangle.
@@ -18,23 +18,10 @@ pub struct ListCounts {
     pub pairs: usize,
 }
 
-// What a list answers; the list is in the outputs.
-#[derive(Clone, Copy)]
-pub enum Listing {
-    Listed(ListCounts),
-    Refused(Refusal),
-}
-
 fn is_listed(label: u8) -> bool
     ensures { result ≡ is_listed label }
 {
     (label == INSIDE) | (label == SURFACE)
-}
-
-fn one_if_listed(label: u8) -> u32
-    ensures { result ≡ cond (is_listed label) 1 0 }
-{
-    if is_listed(label) { 1 } else { 0 }
 }
 
 // How many cells are listed: counted in memory order, in 32 bits, which is faster than in 64.
@@ -43,10 +30,8 @@ pub fn count_cells(labels: &[u8], r: Axes) -> usize
     ensures { (result ≡ length (listed r labels.now)) × (result ≤ 16777216) }
 {
     let mut n = 0u32;
-    let mut i = 0usize;
-    while i < labels.len() {
-        n += one_if_listed(labels[i]);
-        i += 1;
+    for label in labels {
+        n += u32::from(is_listed(*label));
     }
     n as usize
 }
@@ -54,7 +39,7 @@ pub fn count_cells(labels: &[u8], r: Axes) -> usize
 fn flag_of(label: u8) -> u32
     ensures { result ≡ flag_of label }
 {
-    if label == SURFACE { 1 } else { 0 }
+    u32::from(label == SURFACE)
 }
 
 // The records of row (i, j), from record p on. Answers where the next one goes.
@@ -64,12 +49,9 @@ fn write_row(labels: &[u8], r: Axes, records: &mut [u32], p: usize, i: usize, j:
     ensures value { result ≡ p + length (listed_in r labels.now (row i j 0 r.r2)) }
     ensures written { Written 0 (p * width) (plain_in r labels.now (row i j 0 r.r2)) records.old records.new }
 {
-    let to = r.r2;
     let mut q = p;
-    let mut k = 0usize;
-    while k < to {
+    for k in 0..r.r2 {
         let c = Cell { i, j, k };
-        k += 1;
         let label = labels[grid::number(r, c)];
         if is_listed(label) {
             list_record::write(
@@ -95,12 +77,9 @@ fn write_slab(labels: &[u8], r: Axes, records: &mut [u32], p: usize, i: usize) -
     ensures value { result ≡ p + length (listed_in r labels.now (rows r.r2 i 0 r.r1)) }
     ensures written { Written 0 (p * width) (plain_in r labels.now (rows r.r2 i 0 r.r1)) records.old records.new }
 {
-    let to = r.r1;
     let mut q = p;
-    let mut j = 0usize;
-    while j < to {
+    for j in 0..r.r1 {
         q = write_row(labels, r, records, q, i, j);
-        j += 1;
     }
     q
 }
@@ -111,31 +90,20 @@ pub fn write_records(labels: &[u8], r: Axes, records: &mut [u32])
     requires width_in_bounds { length (listed r labels.now) * width ≤ length records.old }
     ensures { Written 0 0 (plain_records r labels.now) records.old records.new }
 {
-    let to = r.r0;
-    let mut q = 0usize;
-    let mut i = 0usize;
-    while i < to {
+    let mut q = 0;
+    for i in 0..r.r0 {
         q = write_slab(labels, r, records, q, i);
-        i += 1;
     }
 }
 
 // Lists the cells 7 and 8 of a map, or refuses and writes nothing.
-pub fn list_cells(labels: &[u8], r: Axes, records: &mut [u32]) -> Listing
-    ensures answer { outcome result ≡ cells_answer labels.now r records.old }
+pub fn list_cells(labels: &[u8], r: Axes, records: &mut [u32]) -> Result<ListCounts, Refusal>
+    ensures answer { result ≡ cells_answer labels.now r records.old }
     ensures records_after { records.new ≡ cells_buffer labels.now r records.old }
 {
-    match grid::map_fault(labels, r, order::known_labels()) {
-        Checked::Fault(f) => Listing::Refused(f),
-        Checked::Fine => {
-            let cells = count_cells(labels, r);
-            match order::room_fault(records.len(), (cells * list_record::WIDTH) as u64) {
-                Checked::Fault(f) => Listing::Refused(f),
-                Checked::Fine => {
-                    write_records(labels, r, records);
-                    Listing::Listed(ListCounts { cells, pairs: 0 })
-                }
-            }
-        }
-    }
+    grid::map_fault(labels, r, order::known_labels())?;
+    let cells = count_cells(labels, r);
+    order::room_fault(records.len(), (cells * list_record::WIDTH) as u64)?;
+    write_records(labels, r, records);
+    Ok(ListCounts { cells, pairs: 0 })
 }

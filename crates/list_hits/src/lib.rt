@@ -29,29 +29,17 @@ fn guess_at(records: &[u32], n: usize, x: usize) -> u32
         return x as u32;
     }
     let k = list_record::read(records, x).cell.k;
-    if x < k {
-        return 0;
-    }
-    (x - k) as u32
+    x.saturating_sub(k) as u32
 }
 
 fn guess_slab(guesses: &mut [u32], records: &[u32], n: usize, rows: usize, i: usize)
     requires table { Table records.now n × (rows ≤ 256) × (i < 256) }
     requires guesses_len { length guesses.old ≡ 65536 }
 {
-    let mut x = 0usize;
-    let mut j = 0usize;
-    while j < rows {
-        let row = j;
-        j += 1;
-        x = list_lookup::find(
-            records,
-            n,
-            0,
-            x,
-            list_lookup::key_of(Cell { i, j: row, k: 0 }),
-        );
-        guesses[i * 256 + row] = guess_at(records, n, x);
+    let mut x = 0;
+    for j in 0..rows {
+        x = list_lookup::find(records, n, 0, x, list_lookup::key_of(Cell { i, j, k: 0 }));
+        guesses[i * 256 + j] = guess_at(records, n, x);
     }
 }
 
@@ -61,10 +49,8 @@ pub fn guesses(records: &[u32], n: usize, r: Axes) -> [u32; 65536]
     ensures { 65536 ≡ length result }
 {
     let mut out = [0u32; 65536];
-    let mut i = 0usize;
-    while i < r.r0 {
+    for i in 0..r.r0 {
         guess_slab(&mut out, records, n, r.r1, i);
-        i += 1;
     }
     out
 }
@@ -143,11 +129,8 @@ fn enter_slab(
     let bands = sweep.bands;
     let f = marking_cuts::slab_along_j(bands, sweep.block.j, i);
     let k = marking_cuts::slab_along_k(bands, sweep.block.k, i);
-    let to = f.to;
-    let mut j = f.from;
-    while j < to {
+    for j in f.from..f.to {
         enter_line(records, list, guesses, entrant, bands, Line { i, j, k });
-        j += 1;
     }
 }
 
@@ -163,11 +146,8 @@ fn enter_block(
     requires room { Room entrant.round.placing entrant.round.cells (gets entrant.triangle (left_in sweep.block sweep.bands) records.old) records.old (length list.old) }
     ensures { Entered entrant.round.placing entrant.round.cells (gets entrant.triangle (left_in sweep.block sweep.bands) records.old) records.old list.old records.new list.new }
 {
-    let to = sweep.block.i.to;
-    let mut i = sweep.block.i.from;
-    while i < to {
+    for i in sweep.block.i.from..sweep.block.i.to {
         enter_slab(records, list, guesses, entrant, sweep, i);
-        i += 1;
     }
 }
 
@@ -204,12 +184,9 @@ pub fn enter_all(
     requires room { Room round.placing round.cells (all_of ps.now ts.now laid.axes laid.placement records.old (triangles ts.now)) records.old (length list.old) }
     ensures { Entered round.placing round.cells (all_of ps.now ts.now laid.axes laid.placement records.old (triangles ts.now)) records.old list.old records.new list.new }
 {
-    let all = ts.len() / 3;
-    let mut t = 0usize;
-    while t < all {
+    for t in 0..ts.len() / 3 {
         let triangle = t as u32;
         let entrant = Entrant { round, triangle };
         enter_triangle(records, list, guesses, ps, ts, laid, entrant);
-        t += 1;
     }
 }

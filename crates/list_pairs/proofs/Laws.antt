@@ -1,4 +1,7 @@
 -- What the contract of `list_pairs` says: its numbers, that a refusal leaves every number, that two results coincide, and that a record's range is its cell's slice of the list. Assumes nothing.
+use Rattle.grid.specs.declared.Refusal.{Refusal}
+use Rattle.list.specs.declared.ListCounts.{ListCounts}
+use Rattle.std.specs.Prelude.{Ok, Err}
 use mathlib.Core.Path.{◌≡◌, sym, ◌∙◌, refl, ap}
 use mathlib.Core.List.{List, [], ◌∷◌, ◌++◌}
 use Prim.Native.Nat.{ℕ, ◌*◌, ◌≤◌, suc, ◌-◌, ◌+◌, ◌<◌}
@@ -7,23 +10,20 @@ use lib.ListN.{length, get_or, take, drop, length-append}
 use lib.Ieee.{Float}
 use borrow.Author.Tests.{ltb-false}
 use Rattle.grid.specs.declared.Axes.{Axes}
-use Rattle.grid.specs.declared.Checked.TheVariants.{Fine}
 use Rattle.grid.specs.declared.Placement.{Placement}
-use Rattle.grid.specs.Answers.{answers, refuses, Finds, Gives}
+use Rattle.grid.specs.Answers.{Outcome, Finds, Gives}
 use Rattle.grid.specs.Checks.{labels_fault, takes}
 use Rattle.grid.specs.Grid.{Sheet, at}
-use Rattle.grid.proofs.Checks.{passed, both_fine, finds_if, finds_then, finds_first, gives_unless}
+use Rattle.grid.proofs.Checks.{passed, both_fine, finds_if, finds_then, finds_first, gives_then}
 use Rattle.marking_mesh.specs.Faults.{mesh_fault}
 use Rattle.marking.specs.Painted.{Ready}
 use Rattle.marking.proofs.Laws.{ready, mesh_finds}
 use Rattle.order.specs.Order.{known_labels, join_all}
 use Rattle.order.specs.Output.{room_fault, over}
 use Rattle.order.proofs.Outputs.{room_fine}
-use Rattle.order.proofs.Outputs as outputs
+use Rattle.grid.proofs.Checks as check
 use Rattle.list_record.specs.Record.{width, record_at, list_slice}
-use Rattle.list.specs.declared.Listing.{Listing}
-use Rattle.list.specs.List.{outcome, listed, records_of, flag_of}
-use Rattle.list.proofs.Laws.{outcome_one}
+use Rattle.list.specs.List.{listed, records_of, flag_of}
 use Rattle.list_tally.specs.Pairs.{triangles_of, triangle_list, pair_count}
 use Rattle.list_pairs.specs.Paired.{list_input_fault, pairs_many_fault, rooms_fault, pairs_fault, counts_of, pairs_answer, records_buffer, triangles_buffer}
 use native.Mathlib.Omega.{arith}
@@ -33,25 +33,26 @@ use Rattle.order.proofs.Lists.{join_append}
 use Rattle.list_record.specs.declared.CellRecord.{CellRecord}
 use Rattle.list_record.proofs.Records.{record_path, slice_good}
 use Rattle.list.proofs.Rows.{row_read}
+use Rattle.grid.specs.declared.Reason.TheVariants.{NoRoom, BadLabel}
 
 -- ---- what the checks leave
 
-pub input_ready : (ps : List Float) (ts : List ℕ) (r : Axes) (p : Placement) (l : List ℕ) → list_input_fault ps ts r p l ≡ Fine → Ready ps ts r p × Sheet r l
+pub input_ready : (ps : List Float) (ts : List ℕ) (r : Axes) (p : Placement) (l : List ℕ) → list_input_fault ps ts r p l ≡ Ok tt → Ready ps ts r p × Sheet r l
 input_ready ps ts r p l h =
     let w = ready ps ts r p (length l) (both_fine (mesh_fault ps ts r p (length l)) (labels_fault known_labels l) h).0 in
     (w.0, record { sound = w.1; size = w.2 })
 
-pub rooms_fine : (cells pairs m n : ℕ) → rooms_fault cells pairs m n ≡ Fine → (cells * width ≤ m) × (pairs ≤ 4294967295) × (pairs ≤ n)
+pub rooms_fine : (cells pairs m n : ℕ) → rooms_fault cells pairs m n ≡ Ok tt → (cells * width ≤ m) × (pairs ≤ 4294967295) × (pairs ≤ n)
 rooms_fine cells pairs m n h =
     let a = both_fine (room_fault m (cells * width)) _ h in
     let b = both_fine (pairs_many_fault pairs) (room_fault n pairs) a.1 in
-    (room_fine m (cells * width) a.0, ltb-false 4294967295 pairs (passed (ltb 4294967295 pairs) 14 0 Fine b.0).0, room_fine n pairs b.1)
+    (room_fine m (cells * width) a.0, ltb-false 4294967295 pairs (passed (ltb 4294967295 pairs) NoRoom 0 (Ok tt) b.0).0, room_fine n pairs b.1)
 
 -- ---- which numbers it gives: 1, 2, 3, 4, 5, 8, 9, 10, 11 and 14
 
 module _ (ps : List Float) (ts : List ℕ) (r : Axes) (p : Placement) (l o q : List ℕ) where
   pub pairs_numbers : Gives (1 ∷ 2 ∷ 3 ∷ 4 ∷ 5 ∷ 8 ∷ 9 ∷ 10 ∷ 11 ∷ 14 ∷ []) (pairs_answer ps ts r p l o q)
-  pairs_numbers = gives_unless ns (pairs_fault ps ts r p l (length o) (length q)) (answers (counts_of ps ts r p l)) all (λ f. tt)
+  pairs_numbers = gives_then ns (pairs_fault ps ts r p l (length o) (length q)) (Ok (counts_of ps ts r p l)) all (λ f. tt)
     where
       ns : List ℕ
       ns = 1 ∷ 2 ∷ 3 ∷ 4 ∷ 5 ∷ 8 ∷ 9 ∷ 10 ∷ 11 ∷ 14 ∷ []
@@ -59,26 +60,26 @@ module _ (ps : List Float) (ts : List ℕ) (r : Axes) (p : Placement) (l o q : L
       all : Finds ns (pairs_fault ps ts r p l (length o) (length q))
       all =
           finds_then ns (list_input_fault ps ts r p l) _
-          (finds_then ns (mesh_fault ps ts r p (length l)) _ (mesh_finds ns ps ts r p (length l) tt tt tt tt tt tt tt tt) (finds_first ns 11 (λ n. n) (takes known_labels) l tt))
+          (finds_then ns (mesh_fault ps ts r p (length l)) _ (mesh_finds ns ps ts r p (length l) tt tt tt tt tt tt tt tt) (finds_first ns BadLabel (λ n. n) (takes known_labels) l tt))
           (finds_then ns (room_fault (length o) (length (listed r l) * width)) _
-          (finds_if ns (ltb (length o) (length (listed r l) * width)) 14 0 Fine tt tt)
+          (finds_if ns (ltb (length o) (length (listed r l) * width)) NoRoom 0 (Ok tt) tt tt)
           (finds_then ns (pairs_many_fault (pair_count ps ts r p l)) _
-          (finds_if ns (ltb 4294967295 (pair_count ps ts r p l)) 14 0 Fine tt tt)
-          (finds_if ns (ltb (length q) (pair_count ps ts r p l)) 14 0 Fine tt tt)))
+          (finds_if ns (ltb 4294967295 (pair_count ps ts r p l)) NoRoom 0 (Ok tt) tt tt)
+          (finds_if ns (ltb (length q) (pair_count ps ts r p l)) NoRoom 0 (Ok tt) tt tt)))
 
   -- ---- a refusal leaves every number of both outputs
 
-  pub refused_same : (n k : ℕ) → pairs_answer ps ts r p l o q ≡ refuses n k → (records_buffer ps ts r p l o q ≡ o) × (triangles_buffer ps ts r p l o q ≡ q)
-  refused_same n k h =
-      let f = pairs_fault ps ts r p l (length o) (length q) in
-      (outputs.refused_same f (counts_of ps ts r p l) n k o (over (records_of r l (triangles_of ps ts r p l)) o) h, outputs.refused_same f (counts_of ps ts r p l) n k q (over (triangle_list ps ts r p l) q) h)
+  pub refused_same : (f : Refusal) → pairs_answer ps ts r p l o q ≡ Err f → (records_buffer ps ts r p l o q ≡ o) × (triangles_buffer ps ts r p l o q ≡ q)
+  refused_same f h =
+      let checks = pairs_fault ps ts r p l (length o) (length q) in
+      (check.refused_same checks (counts_of ps ts r p l) f o (over (records_of r l (triangles_of ps ts r p l)) o) h, check.refused_same checks (counts_of ps ts r p l) f q (over (triangle_list ps ts r p l) q) h)
 
   -- ---- two results that fit the promise are one
 
-  pub settled : (a b : Listing) (m n x y : List ℕ) → outcome a ≡ pairs_answer ps ts r p l o q → outcome b ≡ pairs_answer ps ts r p l o q
+  pub settled : (a b : Outcome ListCounts) (m n x y : List ℕ) → a ≡ pairs_answer ps ts r p l o q → b ≡ pairs_answer ps ts r p l o q
       → m ≡ records_buffer ps ts r p l o q → n ≡ records_buffer ps ts r p l o q → x ≡ triangles_buffer ps ts r p l o q → y ≡ triangles_buffer ps ts r p l o q
       → (a ≡ b) × (m ≡ n) × (x ≡ y)
-  settled a b m n x y e f g h u v = (outcome_one a b (e ∙ sym f), g ∙ sym h, u ∙ sym v)
+  settled a b m n x y e f g h u v = ((e ∙ sym f), g ∙ sym h, u ∙ sym v)
 
 -- ---- the part of the list that a record names is its cell's triangles, and no other
 

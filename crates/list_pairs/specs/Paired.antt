@@ -1,12 +1,9 @@
 -- 01, List: the whole call with pairs. Definitions only.
-use Rattle.std.specs.Prelude.{List, ℕ, ◌*◌, ltb, length, Float}
+use Rattle.std.specs.Prelude.{List, ℕ, ◌*◌, ltb, length, Float, Ok}
 use Rattle.grid.specs.declared.Axes.{Axes}
-use Rattle.grid.specs.declared.Checked.{Checked}
-use Rattle.grid.specs.declared.Checked.TheVariants.{Fine}
 use Rattle.grid.specs.declared.Placement.{Placement}
-use Rattle.grid.specs.Answers.{Outcome, answers, fault_if, ◌and_then◌, unless, lent_after}
+use Rattle.grid.specs.Answers.{Outcome, fault_if, ◌and_then◌, lent_after, Checked}
 use Rattle.grid.specs.Checks.{labels_fault}
-use Rattle.grid.specs.Refusals.{NO_ROOM}
 use Rattle.marking_mesh.specs.Faults.{mesh_fault}
 use Rattle.order.specs.Order.{known_labels}
 use Rattle.order.specs.Output.{room_fault, over}
@@ -14,6 +11,7 @@ use Rattle.list_record.specs.Record.{width}
 use Rattle.list.specs.declared.ListCounts.{ListCounts}
 use Rattle.list.specs.List.{listed, records_of}
 use Rattle.list_tally.specs.Pairs.{triangles_of, triangle_list, pair_count}
+use Rattle.grid.specs.declared.Reason.TheVariants.{NoRoom}
 
 -- 1 to 5 and 8 to 11
 abbrev pub list_input_fault : List Float → List ℕ → Axes → Placement → List ℕ → Checked
@@ -21,7 +19,7 @@ list_input_fault ps ts r p l = mesh_fault ps ts r p (length l) and_then labels_f
 
 -- "14: an output buffer is shorter than the answer, or more than 4,294,967,295 pairs"
 abbrev pub pairs_many_fault : ℕ → Checked
-pairs_many_fault pairs = fault_if (ltb 4294967295 pairs) NO_ROOM 0 Fine
+pairs_many_fault pairs = fault_if (ltb 4294967295 pairs) NoRoom 0 (Ok tt)
 
 abbrev pub rooms_fault : ℕ → ℕ → ℕ → ℕ → Checked
 rooms_fault cells pairs m n = room_fault m (cells * width) and_then pairs_many_fault pairs and_then room_fault n pairs
@@ -36,7 +34,7 @@ counts_of ps ts r p l = record { cells = length (listed r l); pairs = pair_count
 
 -- the answer, and the two outputs: o of records, q of triangle numbers
 abbrev pub pairs_answer : List Float → List ℕ → Axes → Placement → List ℕ → List ℕ → List ℕ → Outcome ListCounts
-pairs_answer ps ts r p l o q = unless (pairs_fault ps ts r p l (length o) (length q)) (answers (counts_of ps ts r p l))
+pairs_answer ps ts r p l o q = pairs_fault ps ts r p l (length o) (length q) and_then Ok (counts_of ps ts r p l)
 
 abbrev pub records_buffer : List Float → List ℕ → Axes → Placement → List ℕ → List ℕ → List ℕ → List ℕ
 records_buffer ps ts r p l o q = lent_after (pairs_fault ps ts r p l (length o) (length q)) o (over (records_of r l (triangles_of ps ts r p l)) o)

@@ -7,13 +7,13 @@ ghost use Rattle.grid.specs.Grid.{Sheet};
 ghost use Rattle.marking.specs.Painted.{Ready};
 ghost use Rattle.order.specs.Output.{over};
 ghost use Rattle.list_record.specs.Record.{width};
-ghost use Rattle.list.specs.List.{outcome, listed, records_of};
+ghost use Rattle.list.specs.List.{listed, records_of};
 ghost use Rattle.list_tally.specs.Pairs.{triangles_of, triangle_list, pair_count};
 ghost use Rattle.list_pairs.specs.Paired.{list_input_fault, pairs_many_fault, rooms_fault, pairs_answer, records_buffer, triangles_buffer};
 ghost use Rattle.list_pairs.specs.Ranges.{ends_before, RangesLaid};
 
-use grid::{Axes, Checked, Laid, Placement};
-use list::{ListCounts, Listing};
+use grid::{Axes, Laid, Placement, Reason, Refusal};
+use list::ListCounts;
 use list_rows::Round;
 
 // From counts to places: each range is empty, and starts where those before it will end.
@@ -22,46 +22,47 @@ fn lay_ranges(records: &mut [u32], n: usize)
     ensures { RangesLaid n records.old records.new }
 {
     let mut s = 0u32;
-    let mut p = 0usize;
-    while p < n {
+    for p in 0..n {
         let e = list_record::read(records, p);
         list_record::set_range(records, p, s, s);
-        s = s + e.end;
-        p += 1;
+        s += e.end;
     }
 }
 
 // ---- the call
 
 // Refusals 1 to 5 and 8 to 11.
-fn list_input_fault(ps: &[f32], ts: &[u32], r: Axes, placement: Placement, labels: &[u8]) -> Checked
+fn list_input_fault(
+    ps: &[f32],
+    ts: &[u32],
+    r: Axes,
+    placement: Placement,
+    labels: &[u8],
+) -> Result<(), Refusal>
     ensures { result ≡ list_input_fault ps.now ts.now r placement labels.now }
 {
-    let of_mesh = marking_checks::mesh_fault(ps, ts, r, placement, labels.len());
-    let of_labels = grid::labels_fault(labels, order::known_labels());
-    grid::and_then(of_mesh, of_labels)
+    marking_checks::mesh_fault(ps, ts, r, placement, labels.len())?;
+    grid::labels_fault(labels, order::known_labels())
 }
 
 // Refusal 14 of more pairs than a range can name.
-fn many_fault(pairs: u64) -> Checked
+fn many_fault(pairs: u64) -> Result<(), Refusal>
     ensures { result ≡ pairs_many_fault pairs }
 {
     if 4294967295 < pairs {
-        return grid::fault(grid::NO_ROOM, 0);
+        return Err(Reason::NoRoom.at(0));
     }
-    Checked::Fine
+    Ok(())
 }
 
 // Refusal 14 of outputs of these lengths.
-fn rooms_fault(cells: usize, pairs: u64, records: usize, list: usize) -> Checked
+fn rooms_fault(cells: usize, pairs: u64, records: usize, list: usize) -> Result<(), Refusal>
     requires { cells ≤ 16777216 }
     ensures { result ≡ rooms_fault cells pairs records list }
 {
-    let of_records = order::room_fault(records, (cells * list_record::WIDTH) as u64);
-    let many = many_fault(pairs);
-    let of_list = order::room_fault(list, pairs);
-    let from_many = grid::and_then(many, of_list);
-    grid::and_then(of_records, from_many)
+    order::room_fault(records, (cells * list_record::WIDTH) as u64)?;
+    many_fault(pairs)?;
+    order::room_fault(list, pairs)
 }
 
 // The outputs of so many cells: their records, and each one's triangles.
@@ -106,27 +107,19 @@ pub fn list_pairs(
     labels: &[u8],
     records: &mut [u32],
     list: &mut [u32],
-) -> Listing
-    ensures answer { outcome result ≡ pairs_answer points.now triangles.now r placement labels.now records.old list.old }
+) -> Result<ListCounts, Refusal>
+    ensures answer { result ≡ pairs_answer points.now triangles.now r placement labels.now records.old list.old }
     ensures records_after { records.new ≡ records_buffer points.now triangles.now r placement labels.now records.old list.old }
     ensures list_after { list.new ≡ triangles_buffer points.now triangles.now r placement labels.now records.old list.old }
 {
-    match list_input_fault(points, triangles, r, placement, labels) {
-        Checked::Fault(f) => Listing::Refused(f),
-        Checked::Fine => {
-            let cells = list::count_cells(labels, r);
-            let pairs = list_tally::count_pairs(labels, points, triangles, r, placement);
-            match rooms_fault(cells, pairs, records.len(), list.len()) {
-                Checked::Fault(f) => Listing::Refused(f),
-                Checked::Fine => {
-                    let laid = Laid { axes: r, placement };
-                    write_pairs(points, triangles, laid, labels, records, list, cells);
-                    Listing::Listed(ListCounts {
-                        cells,
-                        pairs: pairs as usize,
-                    })
-                }
-            }
-        }
-    }
+    list_input_fault(points, triangles, r, placement, labels)?;
+    let cells = list::count_cells(labels, r);
+    let pairs = list_tally::count_pairs(labels, points, triangles, r, placement);
+    rooms_fault(cells, pairs, records.len(), list.len())?;
+    let laid = Laid { axes: r, placement };
+    write_pairs(points, triangles, laid, labels, records, list, cells);
+    Ok(ListCounts {
+        cells,
+        pairs: pairs as usize,
+    })
 }

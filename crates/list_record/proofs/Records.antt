@@ -1,4 +1,5 @@
 -- Laws of a record's numbers: two records with the same numbers are one, and what a store of numbers does to records. And of a range of a list. Assumes nothing.
+use Rattle.std.specs.Prelude.{Ok}
 use mathlib.Core.Bool.{Bool, true, false, cond}
 use mathlib.Core.Logic.{◌⊎◌, inl, inr}
 use mathlib.Core.Path.{◌≡◌, refl, sym, ap, ◌∙◌}
@@ -10,15 +11,14 @@ use lib.Dec.{ltb}
 use lib.ListN.{length, get_or, set, take, drop, length-set, length-drop}
 use lib.Seq.{get_or-set_same, get_or-set_other, length-take-le, get_or-take, get_or-drop, get_or-append-add}
 use borrow.Author.Tests.{le-ltb, ltb-false}
-use Rattle.grid.specs.declared.Checked.{Checked}
-use Rattle.grid.specs.declared.Checked.TheVariants.{Fine}
-use Rattle.grid.specs.Answers.{fault_at, fault_if}
+use Rattle.grid.specs.Answers.{fault_if, Checked, refuses}
 use Rattle.grid.proofs.Cells.{cell_path}
 use Rattle.grid.proofs.Checks.{passed, or_false}
 use Rattle.order.specs.Output.{over, Written}
 use Rattle.order.proofs.Outputs.{written_one, written_more, written_over}
 use Rattle.list_record.specs.declared.CellRecord.{CellRecord}
 use Rattle.list_record.specs.Record.{width, numbers_of, record_at, ranged, PutRecord, bad_range, range_fault, list_slice}
+use Rattle.grid.specs.declared.Reason.TheVariants.{BadRange}
 
 -- two records are one if their numbers are
 pub record_path : (e f : CellRecord) → e.cell ≡ f.cell → e.surface ≡ f.surface → e.start ≡ f.start → e.end ≡ f.end → e ≡ f
@@ -180,12 +180,12 @@ module _ (list : List ℕ) (start end : ℕ) where
   slice_bad h = ap (λ (b : Bool). cond b [] (take (end - start) (drop start list))) h
 
   -- "for a bad range that part is empty, and a check of the same range answers 15"
-  pub bad_range_means : bad_range list start end ≡ true → (list_slice list start end ≡ []) × (range_fault list start end ≡ fault_at 15 0)
-  bad_range_means h = (slice_bad h, ap (λ (b : Bool). fault_if b 15 0 Fine) h)
+  pub bad_range_means : bad_range list start end ≡ true → (list_slice list start end ≡ []) × (range_fault list start end ≡ refuses BadRange 0)
+  bad_range_means h = (slice_bad h, ap (λ (b : Bool). fault_if b BadRange 0 (Ok tt)) h)
 
-  pub slice_length : range_fault list start end ≡ Fine → (start ≤ end) × (end ≤ length list) × (length (list_slice list start end) ≡ end - start)
+  pub slice_length : range_fault list start end ≡ Ok tt → (start ≤ end) × (end ≤ length list) × (length (list_slice list start end) ≡ end - start)
   slice_length h =
-      let w = good_means (passed (bad_range list start end) 15 0 Fine h).0 in
+      let w = good_means (passed (bad_range list start end) BadRange 0 (Ok tt) h).0 in
       (w.0, w.1, ap (λ (l : List ℕ). length l) (slice_good w.0 w.1) ∙ length-take-le (end - start) (drop start list) (omega (arith, w, length-drop start list)))
 
   pub slice_element : start ≤ end → end ≤ length list → (n : ℕ) → n < end - start → get_or (list_slice list start end) n 0 ≡ get_or list (start + n) 0

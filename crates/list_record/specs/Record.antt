@@ -1,10 +1,8 @@
 -- A record of the cell list, and a cell's part of the list of triangle numbers. Definitions only.
-use Rattle.std.specs.Prelude.{Bool, cond, ◌||◌, ◌⊎◌, ◌≡◌, List, [], ◌∷◌, ℕ, ◌+◌, ◌*◌, ◌-◌, ◌≤◌, ◌<◌, ltb, length, get_or, take, drop}
-use Rattle.grid.specs.declared.Checked.{Checked}
-use Rattle.grid.specs.declared.Checked.TheVariants.{Fine}
-use Rattle.grid.specs.Answers.{fault_if}
-use Rattle.grid.specs.Refusals.{BAD_RANGE}
+use Rattle.std.specs.Prelude.{Bool, cond, ◌||◌, ◌⊎◌, ◌≡◌, List, [], ◌∷◌, ℕ, ◌+◌, ◌*◌, ◌-◌, ◌≤◌, ◌<◌, ltb, length, get_or, take, drop, Ok}
+use Rattle.grid.specs.Answers.{fault_if, Checked}
 use Rattle.list_record.specs.declared.CellRecord.{CellRecord}
+use Rattle.grid.specs.declared.Reason.TheVariants.{BadRange}
 
 -- ---- the layout: nothing else says it
 
@@ -43,7 +41,7 @@ abbrev pub bad_range : List ℕ → ℕ → ℕ → Bool
 bad_range list start end = ltb end start || ltb (length list) end
 
 abbrev pub range_fault : List ℕ → ℕ → ℕ → Checked
-range_fault list start end = fault_if (bad_range list start end) BAD_RANGE 0 Fine
+range_fault list start end = fault_if (bad_range list start end) BadRange 0 (Ok tt)
 
 -- "A cell's triangles are handed back as the part of the caller's list; for a bad range that part is empty, and a check of the same range answers 15."
 abbrev pub list_slice : List ℕ → ℕ → ℕ → List ℕ

@@ -6,7 +6,7 @@ ghost use Rattle.std.specs.Prelude.{[], ◌≡◌, ◌+◌, ◌*◌, ◌≤◌, 
 ghost use Rattle.order.specs.Output.{Written};
 ghost use Rattle.list_record.specs.Record.{width, record_at, numbers_of, ranged, PutRecord, bad_range, range_fault, list_slice};
 
-use grid::{Cell, Checked};
+use grid::{Cell, Reason, Refusal};
 
 // How many numbers a record has: i, j, k, surface, start, end, in this order.
 pub const WIDTH: usize = 6;
@@ -77,13 +77,13 @@ fn bad_range(list: &[u32], start: u32, end: u32) -> bool
 }
 
 // Refusal 15 of a range of a list.
-pub fn check_range(list: &[u32], start: u32, end: u32) -> Checked
+pub fn check_range(list: &[u32], start: u32, end: u32) -> Result<(), Refusal>
     ensures { result ≡ range_fault list.now start end }
 {
     if bad_range(list, start, end) {
-        return grid::fault(grid::BAD_RANGE, 0);
+        return Err(Reason::BadRange.at(0));
     }
-    Checked::Fine
+    Ok(())
 }
 
 // The slice of a list from start up to, not including, end; of a range that check_range refuses, an empty

@@ -53,21 +53,15 @@ pub fn enter_row(
     requires room { Room entrant.round.placing entrant.round.cells (gets entrant.triangle (keyed want past) records.old) records.old (length list.old) }
     ensures { Entered entrant.round.placing entrant.round.cells (gets entrant.triangle (keyed want past) records.old) records.old list.old records.new list.new }
 {
-    let n = entrant.round.cells;
-    let t = entrant.triangle;
-    let placing = entrant.round.placing;
-    let mut x = from;
-    while x < n {
+    for x in from..entrant.round.cells {
         let e = list_record::read(records, x);
         let over = past <= list_lookup::key_of(e.cell);
         if over {
             return;
         }
-        let p = x;
-        x += 1;
         let surface = e.surface == 1;
         if surface {
-            give(records, list, p, e, t, placing);
+            give(records, list, x, e, entrant.triangle, entrant.round.placing);
         }
     }
 }

@@ -2,9 +2,8 @@
 // are counted in 64 bits before anything is written, over the labels, in memory order.
 #![tactic(auto)]
 
-ghost use Rattle.std.specs.Prelude.{cond, ◌≡◌, ◌≤◌, ◌<◌, eqb};
+ghost use Rattle.std.specs.Prelude.{◌≡◌, ◌≤◌, ◌<◌};
 ghost use Rattle.grid.specs.Grid.{Sheet};
-ghost use Rattle.grid.specs.Labels.{SURFACE};
 ghost use Rattle.touch.specs.Bands.{BandsFit};
 ghost use Rattle.marking_mesh.specs.Mesh.{triangles};
 ghost use Rattle.marking.specs.Painted.{left_in, row_of, layer_of, AxesLeave, RowRest, Ready};
@@ -12,13 +11,6 @@ ghost use Rattle.list_tally.specs.Pairs.{joins, pair_count, surface_in, size_of}
 
 use grid::{Axes, Block, Cell, Placement, SURFACE, Stretch};
 use touch::Bands;
-
-// 1 for a surface cell, 0 for another.
-fn surface_count(label: u8) -> usize
-    ensures { result ≡ cond (eqb label SURFACE) 1 0 }
-{
-    if label == SURFACE { 1 } else { 0 }
-}
 
 // The surface cells of a row that thirteen bands leave. What its layer has cut is not tested again.
 fn count_row(labels: &[u8], s: Bands, r: Axes, e: Stretch, j: usize, k: usize) -> usize
@@ -28,12 +20,9 @@ fn count_row(labels: &[u8], s: Bands, r: Axes, e: Stretch, j: usize, k: usize) -
     ensures { result ≡ size_of r (surface_in r labels.now (left_in (row_of e j k) s)) }
 {
     let left = marking_cuts::rest_along_i(s, e, j, k);
-    let to = left.to;
-    let mut n = 0usize;
-    let mut i = left.from;
-    while i < to {
-        n += surface_count(labels[grid::number(r, Cell { i, j, k })]);
-        i += 1;
+    let mut n = 0;
+    for i in left.from..left.to {
+        n += usize::from(labels[grid::number(r, Cell { i, j, k })] == SURFACE);
     }
     n
 }
@@ -46,12 +35,9 @@ fn count_layer(labels: &[u8], s: Bands, r: Axes, b: Block, k: usize) -> usize
 {
     let e = marking_cuts::layer_along_i(s, b.i, k);
     let f = marking_cuts::layer_along_j(s, b.j, k);
-    let to = f.to;
-    let mut n = 0usize;
-    let mut j = f.from;
-    while j < to {
+    let mut n = 0;
+    for j in f.from..f.to {
         n += count_row(labels, s, r, e, j, k);
-        j += 1;
     }
     n
 }
@@ -62,12 +48,9 @@ fn count_block(labels: &[u8], s: Bands, r: Axes, b: Block) -> usize
     requires to_le_r0 { (b.i.to ≤ r.r0) × (b.j.to ≤ r.r1) × (b.k.to ≤ r.r2) }
     ensures { result ≡ size_of r (surface_in r labels.now (left_in b s)) }
 {
-    let to = b.k.to;
-    let mut n = 0usize;
-    let mut k = b.k.from;
-    while k < to {
+    let mut n = 0;
+    for k in b.k.from..b.k.to {
         n += count_layer(labels, s, r, b, k);
-        k += 1;
     }
     n
 }
@@ -96,12 +79,9 @@ pub fn count_pairs(labels: &[u8], ps: &[f32], ts: &[u32], r: Axes, placement: Pl
     requires ready { Ready ps.now ts.now r placement }
     ensures { result ≡ pair_count ps.now ts.now r placement labels.now }
 {
-    let all = ts.len() / 3;
-    let mut n: u64 = 0;
-    let mut t = 0usize;
-    while t < all {
+    let mut n = 0;
+    for t in 0..ts.len() / 3 {
         n += count_triangle(labels, ps, ts, r, placement, t) as u64;
-        t += 1;
     }
     n
 }

@@ -1,4 +1,5 @@
 -- What the contract of `mark` says: its labels, its numbers, that two results coincide, that a vertex's own cell is surface, and that the order of triangles does not matter. Assumes nothing.
+use Rattle.std.specs.Prelude.{Ok, Err}
 use mathlib.Core.Bool.{Bool, true, false, not, cond, ◌&&◌, ◌||◌}
 use mathlib.Core.Logic.{◌↔◌}
 use mathlib.Core.Path.{◌≡◌, refl, sym, ap, subst, ◌∙◌}
@@ -14,13 +15,13 @@ use borrow.Author.Tests.{eqb-true, ltb-false}
 use Rattle.grid.specs.declared.Axes.{Axes}
 use Rattle.grid.specs.declared.Cell.{Cell}
 use Rattle.grid.specs.declared.Placement.{Placement}
-use Rattle.grid.specs.declared.Checked.{Checked}
-use Rattle.grid.specs.declared.Checked.TheVariants.{Fine, Fault}
-use Rattle.grid.specs.Answers.{Outcome, answers, refuses, is_one_of, Finds, Gives, unless, lent_after}
+use Rattle.grid.proofs.Checks.{refused_same as refused_lent}
+use Rattle.grid.specs.declared.Refusal.{Refusal}
+use Rattle.grid.specs.Answers.{Outcome, is_one_of, Finds, Gives}
 use Rattle.grid.specs.Grid.{Sound, InGrid, cells, num, at}
 use Rattle.grid.proofs.First.{some_below_lem, both_true}
 use Rattle.grid.proofs.Cells.{num_lt, labels_length, labels_one, labels_at}
-use Rattle.grid.proofs.Checks.{passed, or_false, not_false, finds_if, finds_then, finds_first, finds_grid, gives_unless}
+use Rattle.grid.proofs.Checks.{passed, or_false, not_false, finds_if, finds_then, finds_first, finds_grid, gives_then}
 use Rattle.ints.specs.Bound.{cons3}
 use Rattle.sizing.specs.Points.{bounded, length_fault}
 use Rattle.sizing.specs.Sizing.{points}
@@ -29,21 +30,20 @@ use Rattle.touch.proofs.Meaning.{own_cell}
 use Rattle.marking_mesh.specs.Mesh.{vertex_of, on_grid, triangles, corner, triangle_of, is_candidate}
 use Rattle.marking_mesh.specs.Faults.{origin_fault, names, missing_fault, least_scale, greatest_scale, lent_fault, lengths_fault, lent_numbers_fault, input_fault, mesh_fault}
 use Rattle.marking_mesh.proofs.Laws.{mesh_fine, on_cells, on_vertex, IsCellOf, own_in, own_is_candidate}
-use Rattle.marking.specs.declared.Marking.{Marking}
-use Rattle.marking.specs.declared.Marking.TheVariants.{Marked, Refused}
-use Rattle.marking.specs.Marked.{outcome, hits, is_surface, mark_label, marked_labels, mark_answer, mark_labels}
+use Rattle.marking.specs.Marked.{hits, is_surface, mark_label, marked_labels, mark_answer, mark_labels}
 use Rattle.marking.specs.Painted.{Painted, Ready}
+use Rattle.grid.specs.declared.Reason.TheVariants.{BadCount, NoPoints, BadSize, BadNumber, MissingName, OffGrid}
 
 -- ---- what the loops need and leave
 
-few : (n : ℕ) → length_fault n ≡ Fine → n ≤ 196608
+few : (n : ℕ) → length_fault n ≡ Ok tt → n ≤ 196608
 few n h =
-    let p = or_false (not (eqb (n % 3) 0)) (ltb 65536 (n / 3)) (passed (not (eqb (n % 3) 0) || ltb 65536 (n / 3)) 1 0 Fine h).0 in
+    let p = or_false (not (eqb (n % 3) 0)) (ltb 65536 (n / 3)) (passed (not (eqb (n % 3) 0) || ltb 65536 (n / 3)) BadCount 0 (Ok tt) h).0 in
     let z = eqb-true (n % 3) 0 (not_false (eqb (n % 3) 0) p.0) in
     let l = ltb-false 65536 (n / 3) p.1 in
     omega (arith, div-add-mod n 3)
 
-pub ready : (ps : List Float) (ts : List ℕ) (r : Axes) (placement : Placement) (len : ℕ) → mesh_fault ps ts r placement len ≡ Fine → Ready ps ts r placement × Sound r × (len ≡ cells r)
+pub ready : (ps : List Float) (ts : List ℕ) (r : Axes) (placement : Placement) (len : ℕ) → mesh_fault ps ts r placement len ≡ Ok tt → Ready ps ts r placement × Sound r × (len ≡ cells r)
 ready ps ts r placement len h =
     let w = mesh_fine ps ts r placement len h in
     let i = w.0 in
@@ -63,55 +63,39 @@ pub mesh_finds : (ns : List ℕ) (ps : List Float) (ts : List ℕ) (r : Axes) (p
     → T (is_one_of 1 ns) → T (is_one_of 2 ns) → T (is_one_of 3 ns) → T (is_one_of 4 ns) → T (is_one_of 5 ns) → T (is_one_of 8 ns) → T (is_one_of 9 ns) → T (is_one_of 10 ns)
     → Finds ns (mesh_fault ps ts r placement len)
 mesh_finds ns ps ts r placement len h1 h2 h3 h4 h5 h8 h9 h10 =
-    finds_then ns (input_fault ps ts r placement len) _ input (finds_first ns 10 (λ k. k / 3) (λ v. on_grid r (vertex_of ps placement v)) ts h10)
+    finds_then ns (input_fault ps ts r placement len) _ input (finds_first ns OffGrid (λ k. k / 3) (λ v. on_grid r (vertex_of ps placement v)) ts h10)
   where
     lengths : (n : ℕ) → Finds ns (length_fault n)
-    lengths n = finds_if ns (not (eqb (n % 3) 0) || ltb 65536 (n / 3)) 1 0 Fine h1 tt
+    lengths n = finds_if ns (not (eqb (n % 3) 0) || ltb 65536 (n / 3)) BadCount 0 (Ok tt) h1 tt
 
     input : Finds ns (input_fault ps ts r placement len)
     input =
         finds_then ns (lengths_fault ps ts) _
-        (finds_then ns (length_fault (length ps)) _ (lengths (length ps)) (finds_then ns (length_fault (length ts)) _ (lengths (length ts)) (finds_if ns (eqb (length ps) 0) 2 0 Fine h2 tt)))
+        (finds_then ns (length_fault (length ps)) _ (lengths (length ps)) (finds_then ns (length_fault (length ts)) _ (lengths (length ts)) (finds_if ns (eqb (length ps) 0) NoPoints 0 (Ok tt) h2 tt)))
         (finds_then ns (lent_numbers_fault ps placement) _
-        (finds_then ns (origin_fault placement) _ (finds_first ns 3 (λ n. 0 + n) (bounded 20) (placement.x ∷ placement.y ∷ placement.z ∷ []) h3) (finds_first ns 3 (λ n. 3 + n) (bounded 20) ps h3))
-        (finds_then ns (missing_fault (points ps) ts) _ (finds_first ns 4 (λ k. k / 3) (names (points ps)) ts h4)
+        (finds_then ns (origin_fault placement) _ (finds_first ns BadNumber (λ n. 0 + n) (bounded 20) (placement.x ∷ placement.y ∷ placement.z ∷ []) h3) (finds_first ns BadNumber (λ n. 3 + n) (bounded 20) ps h3))
+        (finds_then ns (missing_fault (points ps) ts) _ (finds_first ns MissingName (λ k. k / 3) (names (points ps)) ts h4)
         (finds_then ns (lent_fault placement) _
-        (finds_if ns (not (le least_scale placement.scale && le placement.scale greatest_scale && eq placement.reciprocal (div binary32 (fin false 1 (pos 0)) placement.scale))) 5 0 Fine h5 tt)
+        (finds_if ns (not (le least_scale placement.scale && le placement.scale greatest_scale && eq placement.reciprocal (div binary32 (fin false 1 (pos 0)) placement.scale))) BadSize 0 (Ok tt) h5 tt)
         (finds_grid ns r len h8 h9))))
 
 pub mark_numbers : (ps : List Float) (ts : List ℕ) (r : Axes) (placement : Placement) (l : List ℕ) → Gives (1 ∷ 2 ∷ 3 ∷ 4 ∷ 5 ∷ 8 ∷ 9 ∷ 10 ∷ []) (mark_answer ps ts r placement l)
 mark_numbers ps ts r placement l =
-    gives_unless (1 ∷ 2 ∷ 3 ∷ 4 ∷ 5 ∷ 8 ∷ 9 ∷ 10 ∷ []) (mesh_fault ps ts r placement (length l)) (answers tt)
+    gives_then (1 ∷ 2 ∷ 3 ∷ 4 ∷ 5 ∷ 8 ∷ 9 ∷ 10 ∷ []) (mesh_fault ps ts r placement (length l)) (Ok tt)
     (mesh_finds (1 ∷ 2 ∷ 3 ∷ 4 ∷ 5 ∷ 8 ∷ 9 ∷ 10 ∷ []) ps ts r placement (length l) tt tt tt tt tt tt tt tt) (λ f. tt)
 
 -- ---- two results that fit the promise are one
 
-outcome_one : (a b : Marking) → outcome a ≡ outcome b → a ≡ b
-outcome_one Marked Marked h = refl
-outcome_one Marked (Refused g) h = absurd (let z : ◌≡◌ {A = ℕ} 0 1 = cc in omega arith)
-outcome_one (Refused f) Marked h = absurd (let z : ◌≡◌ {A = ℕ} 0 1 = cc in omega arith)
-outcome_one (Refused f) (Refused g) h =
-    let e : f.number ≡ g.number = cc in
-    let k : f.place ≡ g.place = cc in
-    λ t. Refused (record { number = e t; place = k t })
-
-pub settled : (ps : List Float) (ts : List ℕ) (r : Axes) (p : Placement) (l : List ℕ) (a b : Marking) (m n : List ℕ)
-    → outcome a ≡ mark_answer ps ts r p l → outcome b ≡ mark_answer ps ts r p l → m ≡ mark_labels ps ts r p l → n ≡ mark_labels ps ts r p l
+pub settled : (ps : List Float) (ts : List ℕ) (r : Axes) (p : Placement) (l : List ℕ) (a b : Outcome Unit) (m n : List ℕ)
+    → a ≡ mark_answer ps ts r p l → b ≡ mark_answer ps ts r p l → m ≡ mark_labels ps ts r p l → n ≡ mark_labels ps ts r p l
     → (a ≡ b) × (m ≡ n)
-settled ps ts r p l a b m n e f g h = (outcome_one a b (e ∙ sym f), g ∙ sym h)
+settled ps ts r p l a b m n e f g h = ((e ∙ sym f), g ∙ sym h)
 
 -- ---- what the labels say
 
 -- a refusal leaves every label
-pub refused_same : (ps : List Float) (ts : List ℕ) (r : Axes) (p : Placement) (l : List ℕ) (n k : ℕ) → mark_answer ps ts r p l ≡ refuses n k → mark_labels ps ts r p l ≡ l
-refused_same ps ts r p l n k h = go (mesh_fault ps ts r p (length l)) h
-  where
-    not_both : ◌≡◌ {A = Outcome Unit} (answers tt) (refuses n k) → ⊥
-    not_both e = let z : ◌≡◌ {A = ℕ} 0 1 = cc in omega arith
-
-    go : (f : Checked) → ◌≡◌ {A = Outcome Unit} (unless f (answers tt)) (refuses n k) → lent_after f l (marked_labels ps ts r p) ≡ l
-    go (Fault f) e = refl
-    go Fine e = absurd (not_both e)
+pub refused_same : (ps : List Float) (ts : List ℕ) (r : Axes) (p : Placement) (l : List ℕ) (f : Refusal) → mark_answer ps ts r p l ≡ Err f → mark_labels ps ts r p l ≡ l
+refused_same ps ts r p l f h = refused_lent (mesh_fault ps ts r p (length l)) tt f l _ h
 
 -- a cell is 8 exactly if some triangle has it as a candidate and touches it, and 0 otherwise
 module _ (ps : List Float) (ts : List ℕ) (r : Axes) (p : Placement) (c : Cell) (i : InGrid r c) where
@@ -143,7 +127,7 @@ module _ (ps : List Float) (ts : List ℕ) (r : Axes) (p : Placement) (c : Cell)
       go false z = refl
 
 -- ---- a triangle marks the cell of each of its vertices
-pub vertex_marked : (ps : List Float) (ts : List ℕ) (r : Axes) (p : Placement) (len : ℕ) → mesh_fault ps ts r p len ≡ Fine
+pub vertex_marked : (ps : List Float) (ts : List ℕ) (r : Axes) (p : Placement) (len : ℕ) → mesh_fault ps ts r p len ≡ Ok tt
     → (t : ℕ) → t < triangles ts → (n : ℕ) → n < 3 → (c : Cell) → IsCellOf (vertex (triangle_of ps ts p t) n) c → InGrid r c × (at r (marked_labels ps ts r p) c ≡ 8)
 vertex_marked ps ts r p len h t l n k c w =
     let o = on_cells ps ts r p (mesh_fine ps ts r p len h).1 t l in

@@ -1,22 +1,15 @@
 -- 01, Marking: which cells are surface, and the whole call. Definitions only.
-use Rattle.std.specs.Prelude.{Bool, cond, ◌&&◌, List, ℕ, length, Float}
+use Rattle.std.specs.Prelude.{Bool, cond, ◌&&◌, List, ℕ, length, Float, Ok}
 use Rattle.grid.specs.declared.Axes.{Axes}
 use Rattle.grid.specs.declared.Cell.{Cell}
 use Rattle.grid.specs.declared.Placement.{Placement}
-use Rattle.grid.specs.Answers.{Outcome, answers, refuses, unless, lent_after}
+use Rattle.grid.specs.Answers.{Outcome, lent_after, ◌and_then◌}
 use Rattle.grid.specs.First.{some_below}
 use Rattle.grid.specs.Grid.{labels_by}
 use Rattle.grid.specs.Labels.{UNDEFINED, SURFACE}
 use Rattle.touch.specs.Touch.{touching}
 use Rattle.marking_mesh.specs.Mesh.{triangles, triangle_of, is_candidate}
 use Rattle.marking_mesh.specs.Faults.{mesh_fault}
-use Rattle.marking.specs.declared.Marking.{Marking}
-use Rattle.marking.specs.declared.Marking.TheVariants.{Marked, Refused}
-
--- 01's number and values for each case of `Marking`: a mark that is made has no value but its labels
-abbrev pub outcome : Marking → Outcome Unit
-outcome Marked = answers tt
-outcome (Refused f) = refuses f.number f.place
 
 -- triangle t has c as a candidate and touches it
 unfoldable pub hits : List Float → List ℕ → Axes → Placement → ℕ → Cell → Bool
@@ -35,7 +28,7 @@ marked_labels ps ts r placement = labels_by r (λ c. mark_label (is_surface ps t
 
 -- the whole call: its answer (1, 2, 3, 4, 5, 8, 9 and 10), and the labels after it
 abbrev pub mark_answer : List Float → List ℕ → Axes → Placement → List ℕ → Outcome Unit
-mark_answer ps ts r placement l = unless (mesh_fault ps ts r placement (length l)) (answers tt)
+mark_answer ps ts r placement l = mesh_fault ps ts r placement (length l) and_then Ok tt
 
 abbrev pub mark_labels : List Float → List ℕ → Axes → Placement → List ℕ → List ℕ
 mark_labels ps ts r placement l = lent_after (mesh_fault ps ts r placement (length l)) l (marked_labels ps ts r placement)

@@ -1,38 +1,21 @@
 // Marking: which cells the steel passes through.
 #![tactic(auto)]
 
-ghost use Rattle.std.specs.Prelude.{◌≡◌, ◌≤◌, ◌<◌, length, replicate};
+ghost use Rattle.std.specs.Prelude.{◌≡◌, ◌≤◌, ◌<◌};
 ghost use Rattle.grid.specs.Grid.{Sound, Sheet};
 ghost use Rattle.touch.specs.Bands.{BandsFit};
 ghost use Rattle.marking_mesh.specs.Mesh.{triangles};
-ghost use Rattle.marking.specs.Marked.{outcome, hits, is_surface, mark_answer, mark_labels};
+ghost use Rattle.marking.specs.Marked.{hits, is_surface, mark_answer, mark_labels};
 ghost use Rattle.marking.specs.Painted.{Painted, left_in, row_of, layer_of, AxesLeave, RowRest, Ready, Sweeps};
 
-use grid::{Axes, Block, Cell, Checked, Placement, Refusal, SURFACE, Stretch, UNDEFINED};
+use grid::{Axes, Block, Cell, Placement, Refusal, SURFACE, Stretch, UNDEFINED};
 use touch::Bands;
-
-// What marking answers; the marks are in the labels.
-#[derive(Clone, Copy)]
-pub enum Marking {
-    Marked,
-    Refused(Refusal),
-}
 
 // Where the cells of a triangle lie.
 #[derive(Clone, Copy)]
 pub struct Sweep {
     pub block: Block,
     pub bands: Bands,
-}
-
-fn clear(labels: &mut [u8])
-    ensures { labels.new ≡ replicate (length labels.old) 0 }
-{
-    let mut n = 0usize;
-    while n < labels.len() {
-        labels[n] = UNDEFINED;
-        n += 1;
-    }
 }
 
 // Of a row the part that the bands leave, in memory order. What its layer has cut is not tested again.
@@ -43,12 +26,8 @@ fn mark_row(labels: &mut [u8], s: Bands, r: Axes, e: Stretch, j: usize, k: usize
     ensures { Painted r (left_in (row_of e j k) s) labels.old labels.new }
 {
     let left = marking_cuts::rest_along_i(s, e, j, k);
-    let to = left.to;
-    let mut i = left.from;
-    while i < to {
-        let n = grid::number(r, Cell { i, j, k });
-        labels[n] = SURFACE;
-        i += 1;
+    for i in left.from..left.to {
+        labels[grid::number(r, Cell { i, j, k })] = SURFACE;
     }
 }
 
@@ -61,11 +40,8 @@ fn mark_layer(labels: &mut [u8], s: Bands, r: Axes, b: Block, k: usize)
 {
     let e = marking_cuts::layer_along_i(s, b.i, k);
     let f = marking_cuts::layer_along_j(s, b.j, k);
-    let to = f.to;
-    let mut j = f.from;
-    while j < to {
+    for j in f.from..f.to {
         mark_row(labels, s, r, e, j, k);
-        j += 1;
     }
 }
 
@@ -75,11 +51,8 @@ fn mark_block(labels: &mut [u8], s: Bands, r: Axes, b: Block)
     requires to_le_r0 { (b.i.to ≤ r.r0) × (b.j.to ≤ r.r1) × (b.k.to ≤ r.r2) }
     ensures { Painted r (left_in b s) labels.old labels.new }
 {
-    let to = b.k.to;
-    let mut k = b.k.from;
-    while k < to {
+    for k in b.k.from..b.k.to {
         mark_layer(labels, s, r, b, k);
-        k += 1;
     }
 }
 
@@ -113,11 +86,8 @@ fn mark_triangles(labels: &mut [u8], ps: &[f32], ts: &[u32], r: Axes, placement:
     requires ready { Ready ps.now ts.now r placement }
     ensures { Painted r (is_surface ps.now ts.now r placement) labels.old labels.new }
 {
-    let n = ts.len() / 3;
-    let mut t = 0usize;
-    while t < n {
+    for t in 0..ts.len() / 3 {
         mark_triangle(labels, ps, ts, r, placement, t);
-        t += 1;
     }
 }
 
@@ -128,16 +98,12 @@ pub fn mark(
     r: Axes,
     placement: Placement,
     labels: &mut [u8],
-) -> Marking
-    ensures answer { outcome result ≡ mark_answer points.now triangles.now r placement labels.old }
+) -> Result<(), Refusal>
+    ensures answer { result ≡ mark_answer points.now triangles.now r placement labels.old }
     ensures labels_after { labels.new ≡ mark_labels points.now triangles.now r placement labels.old }
 {
-    match marking_checks::mesh_fault(points, triangles, r, placement, labels.len()) {
-        Checked::Fault(f) => Marking::Refused(f),
-        Checked::Fine => {
-            clear(labels);
-            mark_triangles(labels, points, triangles, r, placement);
-            Marking::Marked
-        }
-    }
+    marking_checks::mesh_fault(points, triangles, r, placement, labels.len())?;
+    labels.fill(UNDEFINED);
+    mark_triangles(labels, points, triangles, r, placement);
+    Ok(())
 }

@@ -15,11 +15,7 @@ fn first_of(a: i64, b: i64, c: i64) -> usize
     requires { Held a × Held b × Held c }
     ensures { pos result ≡ first_of a b c }
 {
-    let n = touch::least(touch::least(a, b), c) - 1;
-    if n < 0 {
-        return 0;
-    }
-    n as usize
+    (a.min(b).min(c) - 1).max(0) as usize
 }
 
 // min(greatest + 1, axis) of three cells.
@@ -28,11 +24,7 @@ fn past_of(axis: usize, a: i64, b: i64, c: i64) -> usize
     requires axis { Axis axis }
     ensures { pos result ≡ past_of axis a b c }
 {
-    let n = touch::greatest(touch::greatest(a, b), c) + 1;
-    if (axis as i64) < n {
-        return axis;
-    }
-    n as usize
+    (a.max(b).max(c) + 1).min(axis as i64) as usize
 }
 
 // The candidates along an axis of three vertices that fall on its cells.

@@ -12,13 +12,13 @@ use borrow.Author.Tests.{le-leb, lt-leb, lt-ltb, le-ltb, leb-true, leb-false, lt
 use Rattle.grid.proofs.First.{le_or_lt, both_true}
 use mir.Syntax.{w64}
 use mir.Val.{to_z, of_z}
-use Rattle.ints.specs.Bound.{In, Val, arg, lit, minus, in_eq}
+use Rattle.ints.specs.Bound.{In, Val, arg, lit, minus, in_eq, in_lit, v_in}
 use Rattle.ints.specs.Order.{same_test, le_not, le_z_neg, lt_less, lt_more}
-use Rattle.ints.specs.Ring.{mul_neg, last_two}
+use Rattle.ints.specs.Ring.{mul_neg}
 use Rattle.touch.specs.declared.Band.{Band}
 use Rattle.touch.specs.declared.Three.{Three}
 use Rattle.touch.specs.declared.Bands.{Bands}
-use Rattle.touch.specs.Bands.{kept, kept_three, kept_all, Crosswise, Axial, BandsFit}
+use Rattle.touch.specs.Bands.{kept, kept_three, kept_all, BandFits, Crosswise, Axial, BandsFit}
 use Rattle.touch.proofs.Laws.{signed, axes_are, products_are}
 use Rattle.grid.specs.declared.Stretch.{Stretch}
 use Rattle.grid.specs.declared.Block.{Block}
@@ -163,6 +163,9 @@ pub past_is : {m n step high : ℤ} {to x : ℕ} → m ≡ step → n ≡ high �
 past_is p q w = record { before = w.before; under = λ y h. sym (λ t. le_z (p t *ℤ pos y) (q t)) ∙ w.under y h }
 
 -- a place as a signed number
+pub zero_in : In 255 (pos 0)
+zero_in = in_lit 255 (pos 0) tt
+
 pub place_in : {n : ℕ} → n < 256 → In 255 (to_z w64 n)
 place_in h = in_eq (signed h) (record { bound = omega arith })
 
@@ -273,20 +276,37 @@ line_i s j k x =
     let p = sym (+ℤ_assoc (s.x *ℤ pos x) (s.y *ℤ j) (s.z *ℤ k)) in
     shifted s.low s.high (s.y *ℤ j +ℤ s.z *ℤ k) (s.x *ℤ pos x) ∙ (λ t. le_z s.low (p t) && le_z (p t) s.high)
 
-pub line_j : (s : Band) (i k : ℤ) (x : ℕ) → lies s.y (s.low -ℤ (s.x *ℤ i +ℤ s.z *ℤ k)) (s.high -ℤ (s.x *ℤ i +ℤ s.z *ℤ k)) x ≡ on_axis_j s i k x
-line_j s i k x =
-    let p = +ℤ_comm (s.y *ℤ pos x) (s.x *ℤ i +ℤ s.z *ℤ k) ∙ last_two (s.x *ℤ i) (s.z *ℤ k) (s.y *ℤ pos x) in
-    shifted s.low s.high (s.x *ℤ i +ℤ s.z *ℤ k) (s.y *ℤ pos x) ∙ (λ t. le_z s.low (p t) && le_z (p t) s.high)
-
-pub line_k : (s : Band) (i j : ℤ) (x : ℕ) → lies s.z (s.low -ℤ (s.x *ℤ i +ℤ s.y *ℤ j)) (s.high -ℤ (s.x *ℤ i +ℤ s.y *ℤ j)) x ≡ on_axis_k s i j x
-line_k s i j x =
-    let p = +ℤ_comm (s.z *ℤ pos x) (s.x *ℤ i +ℤ s.y *ℤ j) in
-    shifted s.low s.high (s.x *ℤ i +ℤ s.y *ℤ j) (s.z *ℤ pos x) ∙ (λ t. le_z s.low (p t) && le_z (p t) s.high)
-
 -- ---- what a direction says nothing of
 
 keeps_at : (s : Band) {v w : ℤ} → v ≡ w → (le_z s.low v && le_z v s.high) ≡ (le_z s.low w && le_z w s.high)
 keeps_at s p = λ t. le_z s.low (p t) && le_z (p t) s.high
+
+-- a band with its axes turned: a row along j, and one along k, as a row along i
+abbrev pub turned_j : Band → Band
+turned_j s = record { x = s.y; y = s.x; z = s.z; low = s.low; high = s.high }
+
+abbrev pub turned_k : Band → Band
+turned_k s = record { x = s.z; y = s.x; z = s.y; low = s.low; high = s.high }
+
+pub turn_j : (s : Band) (i k : ℤ) (x : ℕ) → on_axis_i (turned_j s) i k x ≡ on_axis_j s i k x
+turn_j s i k x = keeps_at s (ap (λ (w : ℤ). w +ℤ s.z *ℤ k) (+ℤ_comm (s.y *ℤ pos x) (s.x *ℤ i)))
+
+pub turn_k : (s : Band) (i j : ℤ) (x : ℕ) → on_axis_i (turned_k s) i j x ≡ on_axis_k s i j x
+turn_k s i j x = keeps_at s (+ℤ_assoc (s.z *ℤ pos x) (s.x *ℤ i) (s.y *ℤ j) ∙ +ℤ_comm (s.z *ℤ pos x) (s.x *ℤ i +ℤ s.y *ℤ j))
+
+-- a band, and a row, as the machine has them
+abbrev pub read_band : Band → Band
+read_band s =
+    record { x = to_z w64 (of_z w64 s.x); y = to_z w64 (of_z w64 s.y); z = to_z w64 (of_z w64 s.z); low = to_z w64 (of_z w64 s.low); high = to_z w64 (of_z w64 s.high) }
+
+pub band_in : (s : Band) → BandFits s → BandFits (read_band s)
+band_in s h = record { x_in = v_in (arg tt h.x_in); y_in = v_in (arg tt h.y_in); z_in = v_in (arg tt h.z_in); low_in = v_in (arg tt h.low_in); high_in = v_in (arg tt h.high_in) }
+
+pub band_read : (s : Band) → BandFits s → read_band s ≡ s
+band_read s h = λ t. record { x = (arg tt h.x_in).is t; y = (arg tt h.y_in).is t; z = (arg tt h.z_in).is t; low = (arg tt h.low_in).is t; high = (arg tt h.high_in).is t }
+
+pub row_read : (s : Band) (a b : ℤ) (x : ℕ) → BandFits s → In 255 a → In 255 b → on_axis_i (read_band s) (to_z w64 (of_z w64 a)) (to_z w64 (of_z w64 b)) x ≡ on_axis_i s a b x
+row_read s a b x h p q = λ t. on_axis_i (band_read s h t) ((arg tt p).is t) ((arg tt q).is t) x
 
 module _ (s : Three) (h : Crosswise s) (i j k : ℤ) where
   free_x : kept s.x i j k ≡ kept s.x (pos 0) j k

@@ -99,6 +99,7 @@ fn band_along_i(e: Stretch, s: Band, j: i64, k: i64) -> Stretch
 }
 
 // In layer k, the places i that the products of the edges with y leave, whatever j is.
+#[tactic(auto, using(crate::proofs::Laws::place_in, crate::proofs::Laws::zero_in))]
 pub fn layer_along_i(s: Bands, e: Stretch, k: usize) -> Stretch
     requires { (e.to ≤ 256) × BandsFit s × (k < 256) }
     ensures { Cut e (across_y s k) result }
@@ -110,6 +111,7 @@ pub fn layer_along_i(s: Bands, e: Stretch, k: usize) -> Stretch
 }
 
 // In row (j, k), the places i that the other directions leave: the normal, and the products with z.
+#[tactic(auto, using(crate::proofs::Laws::place_in, crate::proofs::Laws::zero_in))]
 pub fn rest_along_i(s: Bands, e: Stretch, j: usize, k: usize) -> Stretch
     requires { (e.to ≤ 256) × BandsFit s × (j < 256) × (k < 256) }
     ensures { Cut e (rest_of_row s j k) result }
@@ -124,21 +126,21 @@ pub fn rest_along_i(s: Bands, e: Stretch, j: usize, k: usize) -> Stretch
 
 // ---- a row along j
 
-// The places j of e where a band leaves the cell (i, j, k).
+// The places j of e where a band leaves the cell (i, j, k): with the axes of the band turned, j is its first.
 fn band_along_j(e: Stretch, s: Band, i: i64, k: i64) -> Stretch
     requires { (e.to ≤ 256) × BandFits s × In 255 i × In 255 k }
     ensures { Cut e (on_axis_j s i k) result }
 {
-    let from = e.from;
-    let to = e.to;
-    if to <= from {
-        return e;
-    }
-    let base = s.x * i + s.z * k;
-    cut(e, s.y, s.low - base, s.high - base)
+    let turned = Band {
+        x: s.y,
+        y: s.x,
+        ..s
+    };
+    band_along_i(e, turned, i, k)
 }
 
 // In layer k, the places j that the products of the edges with x leave, whatever i is.
+#[tactic(auto, using(crate::proofs::Laws::place_in, crate::proofs::Laws::zero_in))]
 pub fn layer_along_j(s: Bands, e: Stretch, k: usize) -> Stretch
     requires { (e.to ≤ 256) × BandsFit s × (k < 256) }
     ensures { Cut e (across_x s k) result }
@@ -151,21 +153,22 @@ pub fn layer_along_j(s: Bands, e: Stretch, k: usize) -> Stretch
 
 // ---- a row along k
 
-// The places k of e where a band leaves the cell (i, j, k).
+// The places k of e where a band leaves the cell (i, j, k), in the same way.
 fn band_along_k(e: Stretch, s: Band, i: i64, j: i64) -> Stretch
     requires { (e.to ≤ 256) × BandFits s × In 255 i × In 255 j }
     ensures { Cut e (on_axis_k s i j) result }
 {
-    let from = e.from;
-    let to = e.to;
-    if to <= from {
-        return e;
-    }
-    let base = s.x * i + s.y * j;
-    cut(e, s.z, s.low - base, s.high - base)
+    let turned = Band {
+        x: s.z,
+        y: s.x,
+        z: s.y,
+        ..s
+    };
+    band_along_i(e, turned, i, j)
 }
 
 // In slab i, the places k that the products of the edges with y leave, whatever j is.
+#[tactic(auto, using(crate::proofs::Laws::place_in, crate::proofs::Laws::zero_in))]
 pub fn slab_along_k(s: Bands, e: Stretch, i: usize) -> Stretch
     requires { (e.to ≤ 256) × BandsFit s × (i < 256) }
     ensures { Cut e (λ k. across_y s k i) result }
@@ -177,6 +180,7 @@ pub fn slab_along_k(s: Bands, e: Stretch, i: usize) -> Stretch
 }
 
 // In slab i, the places j that the products of the edges with z leave, whatever k is.
+#[tactic(auto, using(crate::proofs::Laws::place_in, crate::proofs::Laws::zero_in))]
 pub fn slab_along_j(s: Bands, e: Stretch, i: usize) -> Stretch
     requires { (e.to ≤ 256) × BandsFit s × (i < 256) }
     ensures { Cut e (across_z s i) result }
@@ -188,6 +192,7 @@ pub fn slab_along_j(s: Bands, e: Stretch, i: usize) -> Stretch
 }
 
 // In row (i, j), the places k that the other directions leave: the normal, and the products with x.
+#[tactic(auto, using(crate::proofs::Laws::place_in, crate::proofs::Laws::zero_in))]
 pub fn rest_along_k(s: Bands, e: Stretch, i: usize, j: usize) -> Stretch
     requires { (e.to ≤ 256) × BandsFit s × (i < 256) × (j < 256) }
     ensures { Cut e (rest_along_k s i j) result }

@@ -1,4 +1,5 @@
 -- A coordinate (p - lo) * (1 / s), each operation rounded once, of a p from lo to hi: where hi - lo over s is at most n + 1/8, it falls on one of n + 1 cells (`spanned_on`). Assumes nothing.
+use Rattle.std.specs.Prelude.{Ok, Err}
 use mathlib.Core.Path.{◌≡◌, refl, sym, ap, ◌∙◌, subst}
 use mathlib.Core.Logic.{◌⊎◌, inl, inr, ⊎_elim}
 use mathlib.Core.Bool.{Bool, true, false, not, cond, ◌&&◌, ◌||◌, true≢false, false≢true}
@@ -15,7 +16,7 @@ use lib.Ieee.Positive.{num, den, den_pos}
 use Prim.Native.Nat.{zero-le}
 use borrow.Author.Tests.{ltb-false, leb-true, eqb-true, lt-ltb, le-ltb, le-leb}
 use Rattle.grid.proofs.First.{both_true}
-use Rattle.numbers.specs.declared.Whole.TheVariants.{Of, TooLarge}
+use Rattle.numbers.specs.declared.NoWhole.TheVariants.{TooLarge}
 use Rattle.numbers.specs.Rounding.{units, half, limit, pick_whole, nearest_of}
 use Rattle.numbers.proofs.Order.{eqb_sym, le_test}
 use Rattle.numbers.proofs.Sign.{round_negated, round_none, sub_mul}
@@ -100,7 +101,7 @@ on_cells n nan N u = absurd u.is_plain
 on_cells n (inf s) N u = absurd u.is_plain
 on_cells n (fin true m e) N u = absurd u.is_plain
 on_cells n (fin false m e) N u =
-    ap (λ (b : Bool). on_axis (suc n) (whole_units (pick_whole b (Of (pos ((2 * units * (m * up e) + down e) / (2 * down e)))) TooLarge))) (lt-ltb (m * up e) (limit * down e) (low n (m * up e) (down e) N (down_pos e) u.most))
+    ap (λ (b : Bool). on_axis (suc n) (whole_units (pick_whole b (Ok (pos ((2 * units * (m * up e) + down e) / (2 * down e)))) (Err TooLarge)))) (lt-ltb (m * up e) (limit * down e) (low n (m * up e) (down e) N (down_pos e) u.most))
     ∙ (λ t. le-leb 0 (((2 * units * (m * up e) + down e) / (2 * down e) + half) / units) zero-le t && lt-ltb (((2 * units * (m * up e) + down e) / (2 * down e) + half) / units) (suc n) (below_cells half n (m * up e) (down e) (lit≤ tt) (down_pos e) u.most) t)
   where
     low : (n t d : ℕ) → n ≤ 255 → 0 < d → t * 4 ≤ (4 * n + 1) * d → t < 2 ^ 40 * d

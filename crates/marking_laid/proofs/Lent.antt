@@ -1,4 +1,5 @@
 -- The placement that sizing answers is one that the calls take: neither 3 nor 5 follows from it. So a mesh over points that were sized is refused for its triangles alone (`size_mesh`, `resolution_mesh`). Assumes nothing.
+use Rattle.std.specs.Prelude.{Ok}
 use mathlib.Core.Path.{◌≡◌, refl, sym, ap, subst}
 use mathlib.Core.Bool.{Bool, true, false, not, ◌&&◌}
 use mathlib.Core.List.{List, [], ◌∷◌}
@@ -10,9 +11,8 @@ use lib.Ieee.{Float, nan, inf, fin, up, down, le, lt, eq}
 use lib.Ieee.Positive.{num, den, den_pos, between, le→cross, cross→le}
 use borrow.Author.Tests.{eq-eqb}
 use Rattle.grid.specs.declared.Axes.{Axes}
-use Rattle.grid.specs.declared.Checked.TheVariants.{Fine}
 use Rattle.grid.specs.declared.Placement.{Placement}
-use Rattle.grid.specs.Answers.{answers, ◌and_then◌}
+use Rattle.grid.specs.Answers.{◌and_then◌}
 use Rattle.grid.specs.Grid.{Sound, cells}
 use Rattle.grid.proofs.First.{both_true}
 use Rattle.grid.proofs.Checks.{passed, not_false, both_fine, answered, fault_not, first_fine, axes_fine, buffer_fine}
@@ -26,6 +26,7 @@ use Rattle.marking_mesh.specs.Faults.{origin_fault, missing_fault, least_scale, 
 use Rattle.marking_laid.proofs.Near.{plain}
 use Rattle.marking_laid.proofs.Cover.{inverse, over_near}
 use Rattle.marking_laid.proofs.Own.{size_never_10, resolution_never_10, positive_plain, plain_positive, main_plain, main_least, main_most}
+use Rattle.grid.specs.declared.Reason.TheVariants.{BadSize, NoExtent, BadNumber}
 
 -- a number that has no sign equals itself
 eq_itself : (x : Float) → T (plain x) → eq x x ≡ true
@@ -50,19 +51,19 @@ holds false t = absurd t
 all_true : (a b c : Bool) → a ≡ true → b ≡ true → c ≡ true → not (a && b && c) ≡ false
 all_true a b c p q r i = not (p i && q i && r i)
 
-module _ (ps : List Float) (f : points_fault ps ≡ Fine) (s : Float) (w : Lendable s) where
+module _ (ps : List Float) (f : points_fault ps ≡ Ok tt) (s : Float) (w : Lendable s) where
   some : 0 < num s
   some = omega (arith, w.least, den_pos s)
 
-  lent_fine : lent_fault (placed_at (spans_of ps) s) ≡ Fine
+  lent_fine : lent_fault (placed_at (spans_of ps) s) ≡ Ok tt
   lent_fine =
       let p = plain_positive s w.is_plain some in
       let lo : le least_scale s ≡ true = holds (le least_scale s) (cross→le least_scale s tt p (omega (arith, w.least))) in
       let hi : le s greatest_scale ≡ true = holds (le s greatest_scale) (cross→le s greatest_scale p tt (omega (arith, w.most))) in
-      sym (fault_not _ 5 0 Fine (all_true _ _ _ lo hi (eq_itself (inverse s) (over_near s w.is_plain (omega (arith, w.least)) some).is_plain)))
+      sym (fault_not _ BadSize 0 (Ok tt) (all_true _ _ _ lo hi (eq_itself (inverse s) (over_near s w.is_plain (omega (arith, w.least)) some).is_plain)))
 
-  origin_fine : origin_fault (placed_at (spans_of ps) s) ≡ Fine
-  origin_fine = (first_fine 3 (λ n. 0 + n) (bounded 20) nan _).1 each
+  origin_fine : origin_fault (placed_at (spans_of ps) s) ≡ Ok tt
+  origin_fine = (first_fine BadNumber (λ n. 0 + n) (bounded 20) nan _).1 each
     where
       each : (k : ℕ) → k < 3 → bounded 20 (get_or ((spans_of ps).x.lo ∷ (spans_of ps).y.lo ∷ (spans_of ps).z.lo ∷ []) k nan) ≡ true
       each zero h = (x_spanned ps f).low_bounded
@@ -70,24 +71,24 @@ module _ (ps : List Float) (f : points_fault ps ≡ Fine) (s : Float) (w : Lenda
       each (suc (suc zero)) h = (z_spanned ps f).low_bounded
       each (suc (suc (suc k))) h = absurd (let z : 3 ≤ suc (suc (suc k)) = omega arith in omega arith)
 
-  numbers_fine : lent_numbers_fault ps (placed_at (spans_of ps) s) ≡ Fine
-  numbers_fine i = origin_fine i and_then (first_fine 3 (λ n. 3 + n) (bounded 20) nan ps).1 (all_bounded ps f) i
+  numbers_fine : lent_numbers_fault ps (placed_at (spans_of ps) s) ≡ Ok tt
+  numbers_fine i = origin_fine i and_then (first_fine BadNumber (λ n. 3 + n) (bounded 20) nan ps).1 (all_bounded ps f) i
 
   -- all but 10, of triangles that name points
-  input_own : (ts : List ℕ) (r : Axes) (len : ℕ) → length_fault (length ts) ≡ Fine → missing_fault (points ps) ts ≡ Fine → Sound r → len ≡ cells r → input_fault ps ts r (placed_at (spans_of ps) s) len ≡ Fine
+  input_own : (ts : List ℕ) (r : Axes) (len : ℕ) → length_fault (length ts) ≡ Ok tt → missing_fault (points ps) ts ≡ Ok tt → Sound r → len ≡ cells r → input_fault ps ts r (placed_at (spans_of ps) s) len ≡ Ok tt
   input_own ts r len few named sound size =
       let a = both_fine (length_fault (length ps)) (none_fault (length ps) and_then numbers_fault 0 ps) f in
       let b = both_fine (none_fault (length ps)) (numbers_fault 0 ps) a.1 in
       λ i. (a.0 i and_then few i and_then b.0 i) and_then numbers_fine i and_then named i and_then lent_fine i and_then (axes_fine r).1 sound i and_then (buffer_fine r len).1 size i
 
-mesh_own : (ps : List Float) (ts : List ℕ) (r : Axes) (placement : Placement) (len : ℕ) → input_fault ps ts r placement len ≡ Fine → off_fault ps ts r placement ≡ Fine → mesh_fault ps ts r placement len ≡ Fine
+mesh_own : (ps : List Float) (ts : List ℕ) (r : Axes) (placement : Placement) (len : ℕ) → input_fault ps ts r placement len ≡ Ok tt → off_fault ps ts r placement ≡ Ok tt → mesh_fault ps ts r placement len ≡ Ok tt
 mesh_own ps ts r placement len a b i = a i and_then b i
 
 -- ---- by cell size
 
-size_lendable : (size : Float) → size_fault size ≡ Fine → Lendable size
+size_lendable : (size : Float) → size_fault size ≡ Ok tt → Lendable size
 size_lendable size h =
-    let b = not_false (le least_size size && le size greatest_size) (passed (not (le least_size size && le size greatest_size)) 5 0 Fine h).0 in
+    let b = not_false (le least_size size && le size greatest_size) (passed (not (le least_size size && le size greatest_size)) BadSize 0 (Ok tt) h).0 in
     let lo : T (le least_size size) = subst T (sym (both_true (le least_size size) (le size greatest_size) b).0) tt in
     let hi : T (le size greatest_size) = subst T (sym (both_true (le least_size size) (le size greatest_size) b).1) tt in
     let p = between least_size size greatest_size tt tt lo hi in
@@ -97,22 +98,22 @@ size_lendable size h =
       most = omega (arith, le→cross size greatest_size p tt hi);
     }
 
-pub size_mesh : (ps : List Float) (size : Float) (l : Laid) → by_size ps size ≡ answers l → (ts : List ℕ) → length_fault (length ts) ≡ Fine → missing_fault (points ps) ts ≡ Fine
-    → mesh_fault ps ts l.axes l.placement (cells l.axes) ≡ Fine
+pub size_mesh : (ps : List Float) (size : Float) (l : Laid) → by_size ps size ≡ Ok l → (ts : List ℕ) → length_fault (length ts) ≡ Ok tt → missing_fault (points ps) ts ≡ Ok tt
+    → mesh_fault ps ts l.axes l.placement (cells l.axes) ≡ Ok tt
 size_mesh ps size l h ts few named =
     let s = spans_of ps in
     let w = answered (points_fault ps and_then size_fault size) (size_grid s size) l h in
     let f = both_fine (points_fault ps) (size_fault size) w.0 in
     let e = is_laid ps f.0 size (size_axes s size) l w.1 in
     mesh_own ps ts l.axes l.placement (cells l.axes)
-    (subst (λ (x : Laid). input_fault ps ts x.axes x.placement (cells x.axes) ≡ Fine) e.1
+    (subst (λ (x : Laid). input_fault ps ts x.axes x.placement (cells x.axes) ≡ Ok tt) e.1
     (input_own ps f.0 size (size_lendable size f.1) ts (size_axes s size) (cells (size_axes s size)) few named e.0 refl))
     (size_never_10 ps size l h ts named)
 
 -- ---- by resolution
 
-pub resolution_mesh : (ps : List Float) (r : ℕ) (l : Laid) → by_resolution ps r ≡ answers l → (ts : List ℕ) → length_fault (length ts) ≡ Fine → missing_fault (points ps) ts ≡ Fine
-    → mesh_fault ps ts l.axes l.placement (cells l.axes) ≡ Fine
+pub resolution_mesh : (ps : List Float) (r : ℕ) (l : Laid) → by_resolution ps r ≡ Ok l → (ts : List ℕ) → length_fault (length ts) ≡ Ok tt → missing_fault (points ps) ts ≡ Ok tt
+    → mesh_fault ps ts l.axes l.placement (cells l.axes) ≡ Ok tt
 resolution_mesh ps r l h ts few named =
     let s = spans_of ps in
     let w = answered (points_fault ps and_then resolution_fault r) (resolution_grid s r) l h in
@@ -120,7 +121,7 @@ resolution_mesh ps r l h ts few named =
     let g = answered (extent_fault (dmain_of s)) (grid_of (resolution_axes s r) (placed_at s (resolution_scale s r))) l w.1 in
     let e = is_laid ps f.0 (resolution_scale s r) (resolution_axes s r) l g.1 in
     let b = resolution_fine r f.1 in
-    let k = (passed (lt (dmain_of s) least_extent) 7 0 Fine g.0).0 in
+    let k = (passed (lt (dmain_of s) least_extent) NoExtent 0 (Ok tt) g.0).0 in
     let d = extents ps f.0 in
     let m = of_main Extent (main_of s) (extent s.x) (extent s.y) (extent s.z) d.0 d.1 d.2 in
     let t = (main_largest ps f.0).0 in
@@ -133,6 +134,6 @@ resolution_mesh ps r l h ts few named =
       most = main_most (r - 1) r more few_more most (extent s.x) (dmain_of s) d.0 m t k;
     } in
     mesh_own ps ts l.axes l.placement (cells l.axes)
-    (subst (λ (x : Laid). input_fault ps ts x.axes x.placement (cells x.axes) ≡ Fine) e.1
+    (subst (λ (x : Laid). input_fault ps ts x.axes x.placement (cells x.axes) ≡ Ok tt) e.1
     (input_own ps f.0 (resolution_scale s r) z ts (resolution_axes s r) (cells (resolution_axes s r)) few named e.0 refl))
     (resolution_never_10 ps r l h ts named)

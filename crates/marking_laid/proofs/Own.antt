@@ -1,4 +1,5 @@
 -- Refusal 10 never follows from a call's own sizing: the grid that sizing lays over points has a cell for every point, by cell size (`size_on_grid`) and by resolution (`resolution_on_grid`). Assumes nothing.
+use Rattle.std.specs.Prelude.{Ok, Err}
 use mathlib.Core.Path.{◌≡◌, refl, sym, ap, ◌∙◌, subst}
 use mathlib.Core.Logic.{⊎_elim}
 use mathlib.Core.Bool.{Bool, true, false, not, cond, ◌&&◌}
@@ -18,11 +19,10 @@ use lib.Ieee.Scale.{finite, round_same}
 use lib.Ieee.Positive.{num, den, den_pos, first_pos, positive, between, above, above_of_le, le→cross, value→cross}
 use Prim.Native.Nat.{zero-le}
 use borrow.Author.Tests.{lt-ltb, leb-true, not-false}
-use Rattle.grid.specs.declared.Checked.TheVariants.{Fine}
-use Rattle.grid.specs.Answers.{answers, ◌and_then◌}
+use Rattle.grid.specs.Answers.{◌and_then◌}
 use Rattle.grid.proofs.Checks.{passed, both_fine, answered}
-use Rattle.numbers.specs.declared.Whole.{Whole}
-use Rattle.numbers.specs.declared.Whole.TheVariants.{Of, TooLarge}
+use Rattle.numbers.specs.Rounding.{Whole}
+use Rattle.numbers.specs.declared.NoWhole.TheVariants.{TooLarge}
 use Rattle.numbers.specs.Rounding.{limit, floor_z, pick_whole, ceil_of, trunc_of}
 use Rattle.numbers.proofs.Order.{not_lt_le}
 use Rattle.sizing.specs.Points.{points_fault}
@@ -42,6 +42,7 @@ use Rattle.marking_mesh.proofs.Laws.{named}
 use Rattle.marking_mesh.specs.Mesh.{units_at, vertex_of, on_axis, on_grid}
 use Rattle.marking_laid.proofs.Near.{plain, Near, value_plain, near, mul_is, div_is, div_near}
 use Rattle.marking_laid.proofs.Cover.{inverse, le_at_most, extent_kinds, Scale, point_on}
+use Rattle.grid.specs.declared.Reason.TheVariants.{BadSize, NoExtent, OffGrid}
 
 -- ---- of extents and rounded quotients
 
@@ -81,20 +82,20 @@ quotient_high : (y u m o : ℕ) → y ≤ 2 ^ 30 * u → o ≤ m * 2 ^ 10 → y 
 quotient_high y u m o h k = let a = mul-le-mul h k in omega arith
 
 -- counts that are one whole number
-same_count : (a b : ℕ) → Of (pos a) ≡ Of (pos b) → a ≡ b
+same_count : (a b : ℕ) → ◌≡◌ {A = Whole} (Ok (pos a)) (Ok (pos b)) → a ≡ b
 same_count a b h = cc
 
 -- ---- by cell size
 
 -- a number that has no sign is at most its ceiling
-ceil_above : (x : Float) (n : ℕ) → T (plain x) → ceil_of x ≡ Of (pos n) → num x ≤ n * den x
+ceil_above : (x : Float) (n : ℕ) → T (plain x) → ceil_of x ≡ Ok (pos n) → num x ≤ n * den x
 unfolding ceil_of
 ceil_above nan n p h = absurd p
 ceil_above (inf s) n p h = absurd p
 ceil_above (fin true m e) n p h = absurd p
 ceil_above (fin false m e) n p h = go (ltb (m * up e) (limit * down e)) (m * up e) (down e) (down_pos e) h
   where
-    go : (t : Bool) (a d : ℕ) → 0 < d → pick_whole t (Of (neg_ℤ (floor_z (neg_ℤ (pos a)) d))) TooLarge ≡ Of (pos n) → a ≤ n * d
+    go : (t : Bool) (a d : ℕ) → 0 < d → pick_whole t (Ok (neg_ℤ (floor_z (neg_ℤ (pos a)) d))) (Err TooLarge) ≡ Ok (pos n) → a ≤ n * d
     go true zero d D h = zero-le
     go true (suc a) d D h =
         let k : suc (a / d) ≡ n = same_count (suc (a / d)) n h in
@@ -103,7 +104,7 @@ ceil_above (fin false m e) n p h = go (ltb (m * up e) (limit * down e)) (m * up 
     go false a d D h = absurd (let z : ◌≡◌ {A = ℕ} 0 1 = cc in omega arith)
 
 -- the cell size is a scale that covers each extent
-size_scale : (d size : Float) (m n : ℕ) → Extent d → le least_size size ≡ true → le size greatest_size ≡ true → ceil_of (div binary32 d size) ≡ Of (pos m) → m ≤ n → n ≤ 255 → Scale size d n
+size_scale : (d size : Float) (m n : ℕ) → Extent d → le least_size size ≡ true → le size greatest_size ≡ true → ceil_of (div binary32 d size) ≡ Ok (pos m) → m ≤ n → n ≤ 255 → Scale size d n
 size_scale d size m n D lo hi c M N = record { is_plain = P; least = omega (arith, lower); most = omega (arith, upper); few = N; covers = ⊎_elim some (none_covered size d n) (extent_kinds d D) }
   where
     Z : T (positive size)
@@ -128,7 +129,7 @@ size_scale d size m n D lo hi c M N = record { is_plain = P; least = omega (arit
         omega arith
 
 -- every point of a span falls on one of suc n cells
-module _ (ps : List Float) (f : points_fault ps ≡ Fine) (v : ℕ) (is_point : v < points ps) where
+module _ (ps : List Float) (f : points_fault ps ≡ Ok tt) (v : ℕ) (is_point : v < points ps) where
   spanned_on : (a : ℕ) → a < 3 → (lo hi s : Float) (n : ℕ) → Spanned ps a lo hi → Scale s (sub binary32 hi lo) n
       → on_axis (suc n) (units_at (coord ps a v) lo (inverse s)) ≡ true
   spanned_on a A lo hi s n w z =
@@ -138,7 +139,7 @@ module _ (ps : List Float) (f : points_fault ps ≡ Fine) (v : ℕ) (is_point : 
 
   -- so on one of the axis's cells, which cell size gives
   size_axis_on : (a : ℕ) → a < 3 → (s : Span) (size : Float) (m : ℕ) → Spanned ps a s.lo s.hi → Extent (extent s) → le least_size size ≡ true → le size greatest_size ≡ true
-      → ceil_of (div binary32 (extent s) size) ≡ Of (pos m) → axis_by_size s size ≤ 256
+      → ceil_of (div binary32 (extent s) size) ≡ Ok (pos m) → axis_by_size s size ≤ 256
       → on_axis (axis_by_size s size) (units_at (coord ps a v) s.lo (inverse size)) ≡ true
   unfolding natural
   size_axis_on a A s size m w D lo hi c h =
@@ -156,13 +157,13 @@ module _ (ps : List Float) (f : points_fault ps ≡ Fine) (v : ℕ) (is_point : 
           go false e = le_of_eq refl
 
 -- the grid that sizing by cell size lays over points has a cell for every point
-pub size_on_grid : (ps : List Float) (size : Float) (l : Laid) → by_size ps size ≡ answers l → (v : ℕ) → v < points ps → on_grid l.axes (vertex_of ps l.placement v) ≡ true
+pub size_on_grid : (ps : List Float) (size : Float) (l : Laid) → by_size ps size ≡ Ok l → (v : ℕ) → v < points ps → on_grid l.axes (vertex_of ps l.placement v) ≡ true
 size_on_grid ps size l h v is_point =
     let s = spans_of ps in
     let w = answered (points_fault ps and_then size_fault size) (size_grid s size) l h in
     let f = both_fine (points_fault ps) (size_fault size) w.0 in
     let e = is_laid ps f.0 size (size_axes s size) l w.1 in
-    let b = not-false (le least_size size && le size greatest_size) (passed (not (le least_size size && le size greatest_size)) 5 0 Fine f.1).0 in
+    let b = not-false (le least_size size && le size greatest_size) (passed (not (le least_size size && le size greatest_size)) BadSize 0 (Ok tt) f.1).0 in
     let lo = (both_true (le least_size size) (le size greatest_size) b).0 in
     let hi = (both_true (le least_size size) (le size greatest_size) b).1 in
     let c = size_counts ps size f.0 f.1 in
@@ -210,14 +211,14 @@ module _ (r : ℕ) (R : r ≤ 254) where
       (near (r * num x) (den x) (den_pos x) (omega arith))
 
 -- a number that has no sign is at most one more than its whole part
-trunc_below : (x : Float) (n : ℕ) → T (plain x) → trunc_of x ≡ Of (pos n) → num x ≤ suc n * den x
+trunc_below : (x : Float) (n : ℕ) → T (plain x) → trunc_of x ≡ Ok (pos n) → num x ≤ suc n * den x
 unfolding trunc_of
 trunc_below nan n p h = absurd p
 trunc_below (inf s) n p h = absurd p
 trunc_below (fin true m e) n p h = absurd p
 trunc_below (fin false m e) n p h = go (ltb (m * up e) (limit * down e)) (m * up e) (down e) (down_pos e) h
   where
-    go : (t : Bool) (a d : ℕ) → 0 < d → pick_whole t (Of (pos (a / d))) TooLarge ≡ Of (pos n) → a ≤ suc n * d
+    go : (t : Bool) (a d : ℕ) → 0 < d → pick_whole t (Ok (pos (a / d))) (Err TooLarge) ≡ Ok (pos n) → a ≤ suc n * d
     go true a d D h =
         let k : a / d ≡ n = same_count (a / d) n h in
         let l : a < a / d * d + d = lt-div-mul-add D in
@@ -359,7 +360,7 @@ module _ (q r : ℕ) (one_more : r ≡ suc q) (some : 1 ≤ q) (Q : q ≤ 253) (
   main_scale = covered q (omega (arith, Q)) (λ p. main_covers s_quotient (num d) (den d) (le_at_most d m p m_plain (subst T (sym h) tt)))
 
   -- and d itself is covered by 2 cells more than the whole part of r d over m
-  other_scale : (n : ℕ) → trunc_of (div binary32 (mul binary32 (as_float r) d) m) ≡ Of (pos n) → n ≤ r → Scale s d (suc n)
+  other_scale : (n : ℕ) → trunc_of (div binary32 (mul binary32 (as_float r) d) m) ≡ Ok (pos n) → n ≤ r → Scale s d (suc n)
   other_scale n c N = covered (suc n) few by
     where
       few : suc n ≤ 255
@@ -377,12 +378,12 @@ module _ (q r : ℕ) (one_more : r ≡ suc q) (some : 1 ≤ q) (Q : q ≤ 253) (
           (subst (λ (i : ℕ). i * num d * den m * 2 ^ 8 ≤ (suc n * 2 ^ 8 + 1) * (num m * den d)) one_more f)
 
 -- two more than a whole part
-two_more : (n : ℕ) (x : Whole) → x ≡ Of (pos n) → 2 + natural x ≡ suc (suc n)
+two_more : (n : ℕ) (x : Whole) → x ≡ Ok (pos n) → 2 + natural x ≡ suc (suc n)
 unfolding natural
 two_more n x e = rw e (omega arith)
 
 -- an axis by resolution, the main one or another
-module _ (ps : List Float) (f : points_fault ps ≡ Fine) (v : ℕ) (is_point : v < points ps) where
+module _ (ps : List Float) (f : points_fault ps ≡ Ok tt) (v : ℕ) (is_point : v < points ps) where
   resolution_axis_on : (a : ℕ) → a < 3 → (i : Span) (r : ℕ) (m : Float) (t : Bool) → Spanned ps a i.lo i.hi → 2 ≤ r → r ≤ 254 → Extent (extent i) → Extent m
       → le (extent i) m ≡ true → lt m least_extent ≡ false
       → on_axis (cond t r (2 + natural (trunc_of (div binary32 (mul binary32 (as_float r) (extent i)) m)))) (units_at (coord ps a v) i.lo (inverse (div binary32 m (as_float (r - 1))))) ≡ true
@@ -405,7 +406,7 @@ module _ (ps : List Float) (f : points_fault ps ≡ Fine) (v : ℕ) (is_point : 
           (other_scale (r - 1) r one_more (omega (arith, L)) (omega (arith, H)) (extent i) m D M h k c.0 c.1 c.2)
 
 -- the grid that sizing by resolution lays over points has a cell for every point
-pub resolution_on_grid : (ps : List Float) (r : ℕ) (l : Laid) → by_resolution ps r ≡ answers l → (v : ℕ) → v < points ps → on_grid l.axes (vertex_of ps l.placement v) ≡ true
+pub resolution_on_grid : (ps : List Float) (r : ℕ) (l : Laid) → by_resolution ps r ≡ Ok l → (v : ℕ) → v < points ps → on_grid l.axes (vertex_of ps l.placement v) ≡ true
 resolution_on_grid ps r l h v is_point =
     let s = spans_of ps in
     let w = answered (points_fault ps and_then resolution_fault r) (resolution_grid s r) l h in
@@ -413,7 +414,7 @@ resolution_on_grid ps r l h v is_point =
     let g = answered (extent_fault (dmain_of s)) (grid_of (resolution_axes s r) (placed_at s (resolution_scale s r))) l w.1 in
     let e = is_laid ps f.0 (resolution_scale s r) (resolution_axes s r) l g.1 in
     let b = resolution_fine r f.1 in
-    let k = (passed (lt (dmain_of s) least_extent) 7 0 Fine g.0).0 in
+    let k = (passed (lt (dmain_of s) least_extent) NoExtent 0 (Ok tt) g.0).0 in
     let d = extents ps f.0 in
     let m = of_main Extent (main_of s) (extent s.x) (extent s.y) (extent s.z) d.0 d.1 d.2 in
     let t = main_largest ps f.0 in
@@ -424,11 +425,11 @@ resolution_on_grid ps r l h v is_point =
 
 -- ---- so no triangle over the points is refused with 10
 
-all_on : (ps : List Float) (ts : List ℕ) (r : Axes) (placement : Placement) → ((v : ℕ) → v < points ps → on_grid r (vertex_of ps placement v) ≡ true) → missing_fault (points ps) ts ≡ Fine → off_fault ps ts r placement ≡ Fine
-all_on ps ts r placement on h = (first_fine 10 (λ k. k / 3) (λ v. on_grid r (vertex_of ps placement v)) 0 ts).1 (λ k l. on (get_or ts k 0) ((named ps ts h).names k l))
+all_on : (ps : List Float) (ts : List ℕ) (r : Axes) (placement : Placement) → ((v : ℕ) → v < points ps → on_grid r (vertex_of ps placement v) ≡ true) → missing_fault (points ps) ts ≡ Ok tt → off_fault ps ts r placement ≡ Ok tt
+all_on ps ts r placement on h = (first_fine OffGrid (λ k. k / 3) (λ v. on_grid r (vertex_of ps placement v)) 0 ts).1 (λ k l. on (get_or ts k 0) ((named ps ts h).names k l))
 
-pub size_never_10 : (ps : List Float) (size : Float) (l : Laid) → by_size ps size ≡ answers l → (ts : List ℕ) → missing_fault (points ps) ts ≡ Fine → off_fault ps ts l.axes l.placement ≡ Fine
+pub size_never_10 : (ps : List Float) (size : Float) (l : Laid) → by_size ps size ≡ Ok l → (ts : List ℕ) → missing_fault (points ps) ts ≡ Ok tt → off_fault ps ts l.axes l.placement ≡ Ok tt
 size_never_10 ps size l h ts = all_on ps ts l.axes l.placement (size_on_grid ps size l h)
 
-pub resolution_never_10 : (ps : List Float) (r : ℕ) (l : Laid) → by_resolution ps r ≡ answers l → (ts : List ℕ) → missing_fault (points ps) ts ≡ Fine → off_fault ps ts l.axes l.placement ≡ Fine
+pub resolution_never_10 : (ps : List Float) (r : ℕ) (l : Laid) → by_resolution ps r ≡ Ok l → (ts : List ℕ) → missing_fault (points ps) ts ≡ Ok tt → off_fault ps ts l.axes l.placement ≡ Ok tt
 resolution_never_10 ps r l h ts = all_on ps ts l.axes l.placement (resolution_on_grid ps r l h)

@@ -1,4 +1,5 @@
 -- Laws of the specs of `marking_mesh`: what a vertex that falls on a cell is, what the checks say of a mesh, and a block's cells. Assumes nothing.
+use Rattle.std.specs.Prelude.{Ok, Err}
 use mathlib.Core.Path.{◌≡◌, refl, sym, ap, ◌∙◌}
 use mathlib.Core.Bool.{Bool, true, false, ◌&&◌, cond, true≢false}
 use mathlib.Core.Logic.{◌⊎◌, inl, inr, ⊎_elim}
@@ -18,7 +19,6 @@ use mir.Facts.{sfits_lit, to_z-of_z}
 use Rattle.grid.specs.declared.Axes.{Axes}
 use Rattle.grid.specs.declared.Cell.{Cell}
 use Rattle.grid.specs.declared.Placement.{Placement}
-use Rattle.grid.specs.declared.Checked.TheVariants.{Fine}
 use Rattle.grid.specs.Grid.{Axis, Sound, InGrid, cells}
 use Rattle.grid.specs.Checks.{axes_fault}
 use Rattle.grid.proofs.Checks.{both_fine, axes_fine, buffer_fine, first_fine}
@@ -26,8 +26,8 @@ use Rattle.grid.proofs.First.{both_true}
 use Rattle.ints.specs.Bound.{In, Each, arg, in_add, in_eq, in3, every3}
 use Rattle.ints.specs.Order.{lesser, greater, lt_lesser}
 use Rattle.ints.specs.Differences.{eq_sub, pos_sub}
-use Rattle.numbers.specs.declared.Whole.{Whole}
-use Rattle.numbers.specs.declared.Whole.TheVariants.{Of, TooLarge, NotANumber}
+use Rattle.numbers.specs.Rounding.{Whole}
+use Rattle.numbers.specs.declared.NoWhole.TheVariants.{TooLarge, NotANumber}
 use Rattle.numbers.specs.Rounding.{units, half, nearest_of, cell_of}
 use Rattle.numbers.proofs.Laws.{Fitting, nearest_fits, cell_fits}
 use Rattle.sizing.specs.Points.{length_fault}
@@ -40,6 +40,7 @@ use Rattle.grid.specs.declared.Block.{Block}
 use Rattle.marking_mesh.specs.Mesh.{whole_units, units_at, vertex_of, on_axis, on_grid, triangles, corner, triangle_of, first_of, past_of, cell_along, candidate_along, is_candidate}
 use Rattle.marking_mesh.specs.Faults.{names, missing_fault, least_scale, greatest_scale, lent_fault, off_fault, lengths_fault, lent_numbers_fault, input_fault, mesh_fault}
 use Rattle.marking_mesh.specs.Ranges.{Named, OnGrid, OnCells, Held, StretchOf, BlockOf, between, holds}
+use Rattle.grid.specs.declared.Reason.TheVariants.{MissingName, OffGrid}
 
 -- ---- a vertex
 
@@ -49,9 +50,9 @@ unfolding units_at whole_units
 parts_fits p o r = go (nearest_of units (mul binary32 (sub binary32 p o) r)) (nearest_fits (mul binary32 (sub binary32 p o) r))
   where
     go : (w : Whole) → Fitting w → SFits w64 (whole_units w)
-    go (Of q) f = f
-    go TooLarge f = sfits_lit tt
-    go NotANumber f = sfits_lit tt
+    go (Ok q) f = f
+    go (Err TooLarge) f = sfits_lit tt
+    go (Err NotANumber) f = sfits_lit tt
 
 -- a coordinate that falls on one of at most 256 cells: its cell, and its range
 pub on_held : (n : ℕ) (q : ℤ) → on_axis n q ≡ true → (i : ℕ) × (cell_of q ≡ pos i) × (i < n)
@@ -86,22 +87,22 @@ module _ (r : Axes) (v : List ℤ) (h : on_grid r v ≡ true) where
 
 -- ---- what the checks say
 
-pub named : (ps : List Float) (ts : List ℕ) → missing_fault (points ps) ts ≡ Fine → Named ps ts
-named ps ts h = record { names = λ k l. ltb-true (get_or ts k 0) (points ps) ((first_fine 4 (λ k. k / 3) (names (points ps)) 0 ts).0 h k l) }
+pub named : (ps : List Float) (ts : List ℕ) → missing_fault (points ps) ts ≡ Ok tt → Named ps ts
+named ps ts h = record { names = λ k l. ltb-true (get_or ts k 0) (points ps) ((first_fine MissingName (λ k. k / 3) (names (points ps)) 0 ts).0 h k l) }
 
-pub on_grid_lem : (ps : List Float) (ts : List ℕ) (r : Axes) (placement : Placement) → off_fault ps ts r placement ≡ Fine → OnGrid ps ts r placement
-on_grid_lem ps ts r placement h = record { falls = λ k l. (first_fine 10 (λ k. k / 3) (λ v. on_grid r (vertex_of ps placement v)) 0 ts).0 h k l }
+pub on_grid_lem : (ps : List Float) (ts : List ℕ) (r : Axes) (placement : Placement) → off_fault ps ts r placement ≡ Ok tt → OnGrid ps ts r placement
+on_grid_lem ps ts r placement h = record { falls = λ k l. (first_fine OffGrid (λ k. k / 3) (λ v. on_grid r (vertex_of ps placement v)) 0 ts).0 h k l }
 
 -- no fault of the first nine numbers: every corner names a point, the axes are sound, the buffer has a label for each cell
 pub record Input (ps : List Float) (ts : List ℕ) (r : Axes) (placement : Placement) (len : ℕ) : Type 0 where
-  pub few : length_fault (length ts) ≡ Fine
-  pub numbers : lent_numbers_fault ps placement ≡ Fine
+  pub few : length_fault (length ts) ≡ Ok tt
+  pub numbers : lent_numbers_fault ps placement ≡ Ok tt
   pub named : Named ps ts
-  pub lent : lent_fault placement ≡ Fine
+  pub lent : lent_fault placement ≡ Ok tt
   pub sound : Sound r
   pub size : len ≡ cells r
 
-pub input_fine : (ps : List Float) (ts : List ℕ) (r : Axes) (placement : Placement) (len : ℕ) → input_fault ps ts r placement len ≡ Fine → Input ps ts r placement len
+pub input_fine : (ps : List Float) (ts : List ℕ) (r : Axes) (placement : Placement) (len : ℕ) → input_fault ps ts r placement len ≡ Ok tt → Input ps ts r placement len
 input_fine ps ts r placement len h =
     let a = both_fine (lengths_fault ps ts) _ h in
     let b = both_fine (lent_numbers_fault ps placement) _ a.1 in
@@ -118,7 +119,7 @@ input_fine ps ts r placement len h =
     }
 
 -- no fault at all
-pub mesh_fine : (ps : List Float) (ts : List ℕ) (r : Axes) (placement : Placement) (len : ℕ) → mesh_fault ps ts r placement len ≡ Fine → Input ps ts r placement len × OnGrid ps ts r placement
+pub mesh_fine : (ps : List Float) (ts : List ℕ) (r : Axes) (placement : Placement) (len : ℕ) → mesh_fault ps ts r placement len ≡ Ok tt → Input ps ts r placement len × OnGrid ps ts r placement
 mesh_fine ps ts r placement len h =
     let a = both_fine (input_fault ps ts r placement len) _ h in
     (input_fine ps ts r placement len a.0, on_grid_lem ps ts r placement a.1)

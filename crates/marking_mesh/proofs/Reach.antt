@@ -1,4 +1,5 @@
 -- A vertex's coordinate (p - origin) * (1 / scale), each operation rounded once, is at most 2 ^ 39 after the refusals 3 and 5, so it has its whole number of units: rounding lifts nothing past a power of two. Assumes nothing.
+use Rattle.std.specs.Prelude.{Ok, Err}
 use mathlib.Core.Path.{◌≡◌, refl, sym, ap, ◌∙◌, subst}
 use mathlib.Core.Bool.{Bool, true, false, not, cond, ◌&&◌, ◌||◌, beq, true≢false, false≢true}
 use mathlib.Core.List.{List, [], ◌∷◌}
@@ -14,12 +15,11 @@ use lib.Ieee.Fits.{up_pos, down_pos, and_l}
 use lib.Ieee.Exact.{round_exact}
 use lib.Ieee.Positive.{positive, between, le→cross, through}
 use borrow.Author.Tests.{lt-ltb, le-leb, leb-true, ne_eqb}
-use Rattle.numbers.specs.declared.Whole.TheVariants.{Of, TooLarge}
+use Rattle.numbers.specs.declared.NoWhole.TheVariants.{TooLarge}
 use Rattle.numbers.specs.Rounding.{units, limit, pick_whole, under_limit, nearest_of}
 use Rattle.numbers.proofs.Sign.{round_negated}
 use Rattle.sizing.specs.Points.{bounded, numbers_fault}
 use Rattle.sizing.proofs.Ratio.{Capped, Exact, round_capped}
-use Rattle.grid.specs.declared.Checked.TheVariants.{Fine}
 use Rattle.grid.specs.declared.Placement.{Placement}
 use Rattle.grid.proofs.Checks.{passed, both_fine, not_false, first_fine}
 use Rattle.grid.proofs.First.{both_true}
@@ -28,6 +28,7 @@ use Rattle.sizing.specs.Sizing.{points, coord}
 use Rattle.marking_mesh.specs.Mesh.{whole_units, units_at, vertex_of}
 use Rattle.marking_mesh.specs.Faults.{origin_fault, least_scale, greatest_scale, lent_fault, lent_numbers_fault}
 use Rattle.marking_mesh.proofs.Laws.{within_points}
+use Rattle.grid.specs.declared.Reason.TheVariants.{BadNumber, BadSize}
 
 -- ---- a rounded fraction
 
@@ -163,21 +164,21 @@ module _ (p o scale reciprocal : Float) (P : bounded 20 p ≡ true) (O : bounded
   within_reach = product_bounded 21 18 (sub binary32 p o) reciprocal (lit< tt) (difference_bounded p o P O) reciprocal_bounded
 
 -- a number of at most 2 ^ 39 is under the limit, so it has a nearest whole number
-pub bounded_whole : (k : ℕ) (t : Float) → bounded 39 t ≡ true → (q : ℤ) × (nearest_of k t ≡ Of q)
+pub bounded_whole : (k : ℕ) (t : Float) → bounded 39 t ≡ true → (q : ℤ) × (nearest_of k t ≡ Ok q)
 unfolding bounded nearest_of
 bounded_whole k nan h = absurd (false≢true h)
 bounded_whole k (inf s) h = absurd (false≢true h)
 bounded_whole k (fin s m e) h = (_, given (m * up e) (down e) _ (down_pos e) (leb-true (m * up e) (2 ^ 39 * down e) h))
   where
-    given : (n d : ℕ) (z : ℤ) → 0 < d → n ≤ 2 ^ 39 * d → under_limit n d z ≡ Of z
+    given : (n d : ℕ) (z : ℤ) → 0 < d → n ≤ 2 ^ 39 * d → under_limit n d z ≡ Ok z
     given n d z D h =
         let l : n < limit * d = omega arith in
-        ap (λ (b : Bool). pick_whole b (Of z) TooLarge) (lt-ltb n (limit * d) l)
+        ap (λ (b : Bool). pick_whole b (Ok z) (Err TooLarge)) (lt-ltb n (limit * d) l)
 
 -- so a vertex's coordinate has its whole number of units
 pub whole : (k : ℕ) (p o scale reciprocal : Float) → bounded 20 p ≡ true → bounded 20 o ≡ true → le least_scale scale ≡ true → le scale greatest_scale ≡ true
     → eq reciprocal (div binary32 (fin false 1 (pos 0)) scale) ≡ true
-    → (q : ℤ) × (nearest_of k (mul binary32 (sub binary32 p o) reciprocal) ≡ Of q)
+    → (q : ℤ) × (nearest_of k (mul binary32 (sub binary32 p o) reciprocal) ≡ Ok q)
 whole k p o scale reciprocal P O least greatest is = bounded_whole k (mul binary32 (sub binary32 p o) reciprocal) (within_reach p o scale reciprocal P O least greatest is)
 
 -- ---- of a mesh that passed 3 and 5: every number is bounded, so every coordinate of a vertex is a whole number of units, and the place that stands for what is none never shows
@@ -188,30 +189,30 @@ pub record Bounded (ps : List Float) (placement : Placement) : Type 0 where
   pub origin_z : bounded 20 placement.z ≡ true
   pub points_in : (k : ℕ) → k < length ps → bounded 20 (get_or ps k nan) ≡ true
 
-pub numbers_bounded : (ps : List Float) (placement : Placement) → lent_numbers_fault ps placement ≡ Fine → Bounded ps placement
+pub numbers_bounded : (ps : List Float) (placement : Placement) → lent_numbers_fault ps placement ≡ Ok tt → Bounded ps placement
 numbers_bounded ps placement h =
     let w = both_fine (origin_fault placement) (numbers_fault 3 ps) h in
-    let o = (first_fine 3 (λ n. 0 + n) (bounded 20) nan (placement.x ∷ placement.y ∷ placement.z ∷ [])).0 w.0 in
-    record { origin_x = o 0 (lit< tt); origin_y = o 1 (lit< tt); origin_z = o 2 (lit< tt); points_in = (first_fine 3 (λ n. 3 + n) (bounded 20) nan ps).0 w.1 }
+    let o = (first_fine BadNumber (λ n. 0 + n) (bounded 20) nan (placement.x ∷ placement.y ∷ placement.z ∷ [])).0 w.0 in
+    record { origin_x = o 0 (lit< tt); origin_y = o 1 (lit< tt); origin_z = o 2 (lit< tt); points_in = (first_fine BadNumber (λ n. 3 + n) (bounded 20) nan ps).0 w.1 }
 
 -- one coordinate
-coordinate_whole : (placement : Placement) → lent_fault placement ≡ Fine → (p o : Float) → bounded 20 p ≡ true → bounded 20 o ≡ true
-    → (q : ℤ) × (nearest_of units (mul binary32 (sub binary32 p o) placement.reciprocal) ≡ Of q) × (units_at p o placement.reciprocal ≡ q)
+coordinate_whole : (placement : Placement) → lent_fault placement ≡ Ok tt → (p o : Float) → bounded 20 p ≡ true → bounded 20 o ≡ true
+    → (q : ℤ) × (nearest_of units (mul binary32 (sub binary32 p o) placement.reciprocal) ≡ Ok q) × (units_at p o placement.reciprocal ≡ q)
 unfolding units_at whole_units
 coordinate_whole placement h p o P O =
     let s = placement.scale in
     let r = eq placement.reciprocal (div binary32 (fin false 1 (pos 0)) s) in
-    let all = not_false (le least_scale s && le s greatest_scale && r) (passed _ 5 0 Fine h).0 in
+    let all = not_false (le least_scale s && le s greatest_scale && r) (passed _ BadSize 0 (Ok tt) h).0 in
     let ends = (both_true (le least_scale s && le s greatest_scale) r all).0 in
     let w = whole units p o s placement.reciprocal P O (both_true (le least_scale s) (le s greatest_scale) ends).0 (both_true (le least_scale s) (le s greatest_scale) ends).1 (both_true (le least_scale s && le s greatest_scale) r all).1 in
     (w.0, w.1, ap whole_units w.1)
 
 -- every vertex: its coordinates are the q that 01 names, of the exact t
-pub vertex_whole : (ps : List Float) (placement : Placement) → lent_numbers_fault ps placement ≡ Fine → lent_fault placement ≡ Fine → (v : ℕ) → v < points ps
+pub vertex_whole : (ps : List Float) (placement : Placement) → lent_numbers_fault ps placement ≡ Ok tt → lent_fault placement ≡ Ok tt → (v : ℕ) → v < points ps
     → (x y z : ℤ) × (vertex_of ps placement v ≡ x ∷ y ∷ z ∷ [])
-    × (nearest_of units (mul binary32 (sub binary32 (coord ps 0 v) placement.x) placement.reciprocal) ≡ Of x)
-    × (nearest_of units (mul binary32 (sub binary32 (coord ps 1 v) placement.y) placement.reciprocal) ≡ Of y)
-    × (nearest_of units (mul binary32 (sub binary32 (coord ps 2 v) placement.z) placement.reciprocal) ≡ Of z)
+    × (nearest_of units (mul binary32 (sub binary32 (coord ps 0 v) placement.x) placement.reciprocal) ≡ Ok x)
+    × (nearest_of units (mul binary32 (sub binary32 (coord ps 1 v) placement.y) placement.reciprocal) ≡ Ok y)
+    × (nearest_of units (mul binary32 (sub binary32 (coord ps 2 v) placement.z) placement.reciprocal) ≡ Ok z)
 vertex_whole ps placement h f v l =
     let b = numbers_bounded ps placement h in
     let n = within_points (length ps) v l in

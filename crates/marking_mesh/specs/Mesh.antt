@@ -1,5 +1,5 @@
 -- 01, Sizing and placement and Marking: a vertex on the grid, a triangle, its candidates. Points are f32 triples, triangles u32 triples, one number after the other. Definitions only.
-use Rattle.std.specs.Prelude.{Bool, cond, ◌&&◌, List, [], ◌∷◌, ℕ, ◌+◌, ◌*◌, ◌/◌, eqb, ℤ, pos, neg_ℤ, ◌+ℤ◌, ◌-ℤ◌, length, get_or, Float}
+use Rattle.std.specs.Prelude.{Bool, cond, ◌&&◌, List, [], ◌∷◌, ℕ, ◌+◌, ◌*◌, ◌/◌, eqb, ℤ, pos, neg_ℤ, ◌+ℤ◌, ◌-ℤ◌, length, get_or, Float, Ok, Err}
 use Rattle.std.specs.Int.Signed.{lt_z, le_z}
 use Rattle.std.specs.Float.{binary32}
 use Rattle.std.specs.Float.Ieee.{add, sub, mul}
@@ -7,8 +7,7 @@ use Rattle.grid.specs.declared.Axes.{Axes}
 use Rattle.grid.specs.declared.Cell.{Cell}
 use Rattle.grid.specs.declared.Placement.{Placement}
 use Rattle.ints.specs.Order.{lesser, greater}
-use Rattle.numbers.specs.declared.Whole.{Whole}
-use Rattle.numbers.specs.declared.Whole.TheVariants.{Of, TooLarge, NotANumber}
+use Rattle.numbers.specs.Rounding.{Whole}
 use Rattle.numbers.specs.Rounding.{units, nearest_of, cell_of}
 use Rattle.sizing.specs.Sizing.{coord, as_float}
 use Rattle.touch.specs.Touch.{along, vertex}
@@ -17,9 +16,8 @@ use Rattle.touch.specs.Touch.{along, vertex}
 
 -- a number of units. After the refusals 3 and 5 it is always whole (`vertex_whole` in proofs/Reach.antt); for the rest, what is too large or no number stands a cell before the first, so that it falls on no cell
 unfoldable pub whole_units : Whole → ℤ
-whole_units (Of q) = q
-whole_units TooLarge = neg_ℤ (pos units)
-whole_units NotANumber = neg_ℤ (pos units)
+whole_units (Ok q) = q
+whole_units (Err e) = neg_ℤ (pos units)
 
 -- "A vertex coordinate is t = (p - origin) * (1 / scale). Added: q = the largest whole number not above 256 t + 1/2, taken of the exact t."
 unfoldable pub units_at : Float → Float → Float → ℤ

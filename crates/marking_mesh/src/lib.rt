@@ -4,29 +4,18 @@
 ghost use Rattle.std.specs.Prelude.{◌≡◌, ◌<◌};
 ghost use Rattle.grid.specs.Grid.{Axis, Sound};
 ghost use Rattle.sizing.specs.Sizing.{points};
-ghost use Rattle.marking_mesh.specs.Mesh.{whole_units, units_at, vertex_of, on_axis, on_grid, triangles, triangle_of, origin_along, off_centre};
+ghost use Rattle.marking_mesh.specs.Mesh.{units_at, vertex_of, on_axis, on_grid, triangles, triangle_of, origin_along, off_centre};
 ghost use Rattle.marking_mesh.specs.Ranges.{Named};
 
 use grid::{Axes, Placement};
-use numbers::Whole;
 
 // ---- a vertex on the grid
 
-// A number of units; what is none stands before the first cell.
-fn whole_units(w: Whole) -> i64
-    ensures { result ≡ whole_units w }
-{
-    match w {
-        Whole::Of(q) => q,
-        Whole::TooLarge => -numbers::SIDE,
-        Whole::NotANumber => -numbers::SIDE,
-    }
-}
-
+// A coordinate in units; one that has no number of them stands before the first cell.
 fn units_at(p: f32, origin: f32, reciprocal: f32) -> i64
     ensures { result ≡ units_at p origin reciprocal }
 {
-    whole_units(numbers::to_units((p - origin) * reciprocal))
+    numbers::to_units((p - origin) * reciprocal).unwrap_or(-numbers::SIDE)
 }
 
 // Point v.

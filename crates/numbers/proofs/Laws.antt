@@ -1,4 +1,5 @@
 -- Laws of `specs/Rounding.antt`. Assumes nothing.
+use Rattle.std.specs.Prelude.{Ok, Err}
 use mathlib.Core.Path.{◌≡◌, refl, sym, ap, ◌∙◌, subst}
 use mathlib.Core.Bool.{Bool, true, false, not, cond, true≢false, false≢true}
 use Prim.Native.Nat.{ℕ, zero, suc, ◌+◌, ◌-◌, ◌*◌, ◌/◌, ◌%◌, ◌^◌, ◌≤◌, ◌<◌}
@@ -20,8 +21,8 @@ use borrow.Author.Rules.{sfits_of}
 use lib.Ieee.Nearest.{div_same}
 use borrow.Author.Tests.{lt-ltb, le-ltb, ne_eqb, ltb-true, ltb-false}
 use Rattle.ints.specs.Order.{same_test}
-use Rattle.numbers.specs.declared.Whole.{Whole}
-use Rattle.numbers.specs.declared.Whole.TheVariants.{Of, TooLarge, NotANumber}
+use Rattle.numbers.specs.Rounding.{Whole}
+use Rattle.numbers.specs.declared.NoWhole.TheVariants.{TooLarge, NotANumber}
 use Rattle.numbers.specs.Rounding.{signed, floor_z, limit, pick_whole, under_limit, floor_times, ceil_of, trunc_of, nearest_of, units, half, cell_of}
 
 -- ---- equal fractions have the same floor
@@ -70,7 +71,7 @@ floor_of_value k nan s a c C h = absurd h
 floor_of_value k (inf t) s a c C h = absurd h
 floor_of_value k (fin t m e) s a c C h =
     ap (λ (b : Bool). under_limit (m * up e) (down e) (floor_z (signed b (k * (m * up e))) (down e))) h.0
-    ∙ ap (λ (b : Bool). pick_whole b (Of (floor_z (signed s (k * (m * up e))) (down e))) TooLarge) (within_same (m * up e) (down e) a c (limit) (down_pos e) C h.1)
+    ∙ ap (λ (b : Bool). pick_whole b (Ok (floor_z (signed s (k * (m * up e))) (down e))) (Err TooLarge)) (within_same (m * up e) (down e) a c (limit) (down_pos e) C h.1)
     ∙ ap (λ (z : ℤ). under_limit a c z) (floor_same s (k * (m * up e)) (down e) (k * a) c (down_pos e) C (scaled_cross k (m * up e) (down e) a c h.1))
 
 -- ---- what a bit pattern's fields stand for
@@ -90,10 +91,10 @@ units_cross q p x h =
 
 -- q * 2 ^ x units of 2 ^ -149, under limit
 floor_units : (p x q : ℕ) (s : Bool) → p + x ≤ 179 → q * 2 ^ x < 2 ^ 189
-    → under_limit (q * 2 ^ x) (2 ^ 149) (floor_z (signed s (2 ^ p * (q * 2 ^ x))) (2 ^ 149)) ≡ Of (floor_z (signed s (q * 2 ^ 30)) (2 ^ (179 - (p + x))))
+    → under_limit (q * 2 ^ x) (2 ^ 149) (floor_z (signed s (2 ^ p * (q * 2 ^ x))) (2 ^ 149)) ≡ Ok (floor_z (signed s (q * 2 ^ 30)) (2 ^ (179 - (p + x))))
 floor_units p x q s h l =
-    ap (λ (b : Bool). pick_whole b (Of (floor_z (signed s (2 ^ p * (q * 2 ^ x))) (2 ^ 149))) TooLarge) (lt-ltb (q * 2 ^ x) (limit * 2 ^ 149) l)
-    ∙ ap Of (floor_same s (2 ^ p * (q * 2 ^ x)) (2 ^ 149) (q * 2 ^ 30) (2 ^ (179 - (p + x))) (pow_pos 149) (pow_pos (179 - (p + x))) (units_cross q p x h))
+    ap (λ (b : Bool). pick_whole b (Ok (floor_z (signed s (2 ^ p * (q * 2 ^ x))) (2 ^ 149))) (Err TooLarge)) (lt-ltb (q * 2 ^ x) (limit * 2 ^ 149) l)
+    ∙ ap Ok (floor_same s (2 ^ p * (q * 2 ^ x)) (2 ^ 149) (q * 2 ^ 30) (2 ^ (179 - (p + x))) (pow_pos 149) (pow_pos (179 - (p + x))) (units_cross q p x h))
 
 few : (p : ℕ) → p ≤ 12 → p + 0 ≤ 179
 few p h = omega arith
@@ -120,18 +121,18 @@ below_limit : (t x : ℕ) → t < 2 ^ 23 → suc x < 167 → (2 ^ 23 + t) * 2 ^ 
 below_limit t x h k = lt_of_lt_of_le (shl_lt 24 x (led t h)) (pow_mono (expo x k))
 
 pub floor_subnormal : (p : ℕ) (s : Bool) (t : ℕ) → t < 2 ^ 23 → p ≤ 12
-    → Of (floor_z (signed s (t * 2 ^ 30)) (2 ^ (179 - p))) ≡ floor_times (2 ^ p) (of_fields binary32 s 0 t)
+    → Ok (floor_z (signed s (t * 2 ^ 30)) (2 ^ (179 - p))) ≡ floor_times (2 ^ p) (of_fields binary32 s 0 t)
 unfolding of_fields
 floor_subnormal p s t h k =
     sym (floor_of_value (2 ^ p) (odd 24 s t 0 149) s (t * 2 ^ 0) (2 ^ 149) (pow_pos 149) (odd_sign 24 s t 0 149)
     ∙ floor_units p 0 t s (few p k) (subst (λ (n : ℕ). n < 2 ^ 189) (sym (mul-one t)) (wide t h))
-    ∙ ap (λ (n : ℕ). Of (floor_z (signed s (t * 2 ^ 30)) (2 ^ n))) (same_places p))
+    ∙ ap (λ (n : ℕ). Ok (floor_z (signed s (t * 2 ^ 30)) (2 ^ n))) (same_places p))
 
 differ : (x : ℕ) → suc x < 167 → suc x ≡ 255 → ⊥
 differ x h e = omega arith
 
 pub floor_normal : (p : ℕ) (s : Bool) (x t : ℕ) → t < 2 ^ 23 → p ≤ 12 → suc x < 167
-    → Of (floor_z (signed s ((2 ^ 23 + t) * 2 ^ 30)) (2 ^ (180 - p - suc x))) ≡ floor_times (2 ^ p) (of_fields binary32 s (suc x) t)
+    → Ok (floor_z (signed s ((2 ^ 23 + t) * 2 ^ 30)) (2 ^ (180 - p - suc x))) ≡ floor_times (2 ^ p) (of_fields binary32 s (suc x) t)
 unfolding of_fields
 floor_normal p s x t h k l =
     let q = 2 ^ 23 + t in
@@ -139,11 +140,11 @@ floor_normal p s x t h k l =
     sym (ap (λ (b : Bool). floor_times (2 ^ p) (cond b (cond (eqb t 0) (inf s) nan) v)) (ne_eqb (suc x) 255 (differ x l))
     ∙ floor_of_value (2 ^ p) v s (q * 2 ^ x) (2 ^ 149) (pow_pos 149) (odd_sign 24 s q x 149)
     ∙ floor_units p x q s (few_more p x k l) (below_limit t x h l)
-    ∙ ap (λ (n : ℕ). Of (floor_z (signed s (q * 2 ^ 30)) (2 ^ n))) (same_places_more p x))
+    ∙ ap (λ (n : ℕ). Ok (floor_z (signed s (q * 2 ^ 30)) (2 ^ n))) (same_places_more p x))
 
 -- the same at a field that is not 0
 pub floor_field : (p : ℕ) (s : Bool) (f t : ℕ) → t < 2 ^ 23 → p ≤ 12 → f < 167 → (f ≡ 0 → ⊥)
-    → Of (floor_z (signed s ((2 ^ 23 + t) * 2 ^ 30)) (2 ^ (180 - p - f))) ≡ floor_times (2 ^ p) (of_fields binary32 s f t)
+    → Ok (floor_z (signed s ((2 ^ 23 + t) * 2 ^ 30)) (2 ^ (180 - p - f))) ≡ floor_times (2 ^ p) (of_fields binary32 s f t)
 floor_field p s zero t h k l n = absurd (n refl)
 floor_field p s (suc x) t h k l n = floor_normal p s x t h k l
 
@@ -153,13 +154,13 @@ reach x h = omega arith
 past_limit : (t x : ℕ) → 167 ≤ suc x → limit * 2 ^ 149 ≤ (2 ^ 23 + t) * 2 ^ x
 past_limit t x h = le_trans (le_of_eq (pow-add 2 23 166)) (le_trans (mul-le-mul_left (2 ^ 23) (pow_mono (reach x h))) (mul-le-mul_right (2 ^ x) (le-add_right (2 ^ 23) t)))
 
-at_top : (k : ℕ) (b c s : Bool) (v : Float) → T (not (is_nan (cond b (cond c (inf s) nan) v))) → floor_times k v ≡ TooLarge → floor_times k (cond b (cond c (inf s) nan) v) ≡ TooLarge
+at_top : (k : ℕ) (b c s : Bool) (v : Float) → T (not (is_nan (cond b (cond c (inf s) nan) v))) → floor_times k v ≡ Err TooLarge → floor_times k (cond b (cond c (inf s) nan) v) ≡ Err TooLarge
 unfolding floor_times is_nan
 at_top k true true s v n h = refl
 at_top k true false s v n h = absurd n
 at_top k false c s v n h = h
 
-pub floor_large : (k : ℕ) (s : Bool) (x t : ℕ) → 167 ≤ x → T (not (is_nan (of_fields binary32 s x t))) → TooLarge ≡ floor_times k (of_fields binary32 s x t)
+pub floor_large : (k : ℕ) (s : Bool) (x t : ℕ) → 167 ≤ x → T (not (is_nan (of_fields binary32 s x t))) → (Err TooLarge) ≡ floor_times k (of_fields binary32 s x t)
 unfolding of_fields
 floor_large k s zero t l n = absurd (lt_irrefl 0 (lt_of_lt_of_le (lit< tt) l))
 floor_large k s (suc x) t l n =
@@ -167,7 +168,7 @@ floor_large k s (suc x) t l n =
     let v = odd 24 s q x 149 in
     sym (at_top k (eqb (suc x) 255) (eqb t 0) s v n
     (floor_of_value k v s (q * 2 ^ x) (2 ^ 149) (pow_pos 149) (odd_sign 24 s q x 149)
-    ∙ ap (λ (b : Bool). pick_whole b (Of (floor_z (signed s (k * (q * 2 ^ x))) (2 ^ 149))) TooLarge) (le-ltb (q * 2 ^ x) (limit * 2 ^ 149) (past_limit t x l))))
+    ∙ ap (λ (b : Bool). pick_whole b (Ok (floor_z (signed s (k * (q * 2 ^ x))) (2 ^ 149))) (Err TooLarge)) (le-ltb (q * 2 ^ x) (limit * 2 ^ 149) (past_limit t x l))))
 
 as_fields : (b : ℕ) → of_bits binary32 b ≡ of_fields binary32 (leb 2147483648 b) (b % 2147483648 / 8388608) (b % 8388608)
 unfolding of_bits
@@ -180,7 +181,7 @@ fields_are x h = sym (as_fields (to_bits binary32 x)) ∙ of_bits-to_bits binary
 
 -- ---- a NaN, and what is none
 
-pub is_nan_lem : (k : ℕ) (x : Float) → ne x x ≡ true → NotANumber ≡ floor_times k x
+pub is_nan_lem : (k : ℕ) (x : Float) → ne x x ≡ true → (Err NotANumber) ≡ floor_times k x
 unfolding floor_times
 is_nan_lem k x h = ap (floor_times k) (sym (differs_from_itself x (subst T (sym h) tt)))
 
@@ -233,11 +234,10 @@ clamped true (suc n) k h l = ap negsuc (gone n k (omega arith) l)
 -- ---- an answer from the floor
 
 abbrev pub map_whole : (ℤ → ℤ) → Whole → Whole
-map_whole f (Of z) = Of (f z)
-map_whole f TooLarge = TooLarge
-map_whole f NotANumber = NotANumber
+map_whole f (Ok z) = Ok (f z)
+map_whole f (Err e) = Err e
 
-map_pick : (f : ℤ → ℤ) (b : Bool) (z : ℤ) → map_whole f (pick_whole b (Of z) TooLarge) ≡ pick_whole b (Of (f z)) TooLarge
+map_pick : (f : ℤ → ℤ) (b : Bool) (z : ℤ) → map_whole f (pick_whole b (Ok z) (Err TooLarge)) ≡ pick_whole b (Ok (f z)) (Err TooLarge)
 map_pick f true z = refl
 map_pick f false z = refl
 
@@ -304,9 +304,9 @@ nearest_is k (fin s m e) =
 -- ---- the floor fits
 
 abbrev pub Under : ℕ → Whole → Type 0
-Under B (Of z) = mag z < B
-Under B TooLarge = Unit
-Under B NotANumber = Unit
+Under B (Ok z) = mag z < B
+Under B (Err TooLarge) = Unit
+Under B (Err NotANumber) = Unit
 
 shrunk : (s : Bool) (n d P : ℕ) → 0 < d → 0 < P → n < P * d → mag (floor_z (signed s n) d) < P
 shrunk false n d P D Q h = (div-lt_iff_lt-mul D).1 h
@@ -325,7 +325,7 @@ floor_under k (fin s m e) K =
     go (ltb n (limit * down e)) (λ t. shrunk s (k * n) (down e) (k * limit) (down_pos e) (mul-pos K (pow_pos 40))
     (lt_of_lt_of_le (mul-lt-mul_of_pos_left (ltb→lt n (limit * down e) t) K) (le_of_eq (sym (mul_assoc k (limit) (down e))))))
   where
-    go : (b : Bool) → (T b → mag (floor_z (signed s (k * (m * up e))) (down e)) < k * limit) → Under (k * limit) (pick_whole b (Of (floor_z (signed s (k * (m * up e))) (down e))) TooLarge)
+    go : (b : Bool) → (T b → mag (floor_z (signed s (k * (m * up e))) (down e)) < k * limit) → Under (k * limit) (pick_whole b (Ok (floor_z (signed s (k * (m * up e))) (down e))) (Err TooLarge))
     go true h = h tt
     go false h = tt
 
@@ -406,17 +406,17 @@ shr_under (negsuc a) d P D h = (div-lt_iff_lt-mul D).1 h
 -- ---- what a caller reads back: a coordinate and its cell fit
 
 abbrev pub Fitting : Whole → Type 0
-Fitting (Of z) = SFits w64 z
-Fitting TooLarge = Unit
-Fitting NotANumber = Unit
+Fitting (Ok z) = SFits w64 z
+Fitting (Err TooLarge) = Unit
+Fitting (Err NotANumber) = Unit
 
 pub nearest_fits : (x : Float) → Fitting (nearest_of units x)
 nearest_fits x = subst Fitting (sym (nearest_is units x)) (go (floor_times (2 * units) x) (floor_under (2 * units) x (lit< tt)))
   where
     go : (w : Whole) → Under (2 * units * limit) w → Fitting (map_whole halved w)
-    go (Of z) h = halved_fits z (lt_of_lt_of_le h (lit≤ tt))
-    go TooLarge h = tt
-    go NotANumber h = tt
+    go (Ok z) h = halved_fits z (lt_of_lt_of_le h (lit≤ tt))
+    go (Err TooLarge) h = tt
+    go (Err NotANumber) h = tt
 
 pub cell_fits : (q : ℤ) → SFits w64 q → SFits w64 (cell_of q)
 cell_fits q f =

@@ -1,4 +1,5 @@
 -- What the answers of specs/Rounding.antt mean: each whole number that is given is the one that `IsNearest`, `IsCeiling` or `IsTruncation` describes, and the only one. Assumes nothing.
+use Rattle.std.specs.Prelude.{Ok, Err}
 use mathlib.Core.Path.{◌≡◌, refl, sym, ap, ◌∙◌, subst}
 use mathlib.Core.Logic.{◌↔◌}
 use Prim.Native.Nat.{ℕ, zero, suc, ◌*◌, ◌/◌, ◌≤◌, ◌<◌}
@@ -13,8 +14,8 @@ use lib.Ieee.Fits.{down_pos}
 use borrow.Author.Tests.{lt-ltb, le-ltb, ltb-false}
 use Rattle.ints.specs.Order.{le_z_refl, le_z_antisym, le_z_neg}
 use Rattle.ints.specs.Ring.{mul_neg}
-use Rattle.numbers.specs.declared.Whole.TheVariants.{Of, TooLarge}
-use Rattle.numbers.specs.Rounding.{IsFloor, IsCeil, IsNearest, IsCeiling, IsTruncation, limit, signed, floor_z, pick_whole, under_limit, nearest_of, ceil_of, trunc_of}
+use Rattle.numbers.specs.declared.NoWhole.TheVariants.{TooLarge}
+use Rattle.numbers.specs.Rounding.{Whole, IsFloor, IsCeil, IsNearest, IsCeiling, IsTruncation, limit, signed, floor_z, pick_whole, under_limit, nearest_of, ceil_of, trunc_of}
 use Rattle.numbers.proofs.Laws.{pred_lt, lt_pred}
 
 below_neg : (n : ℕ) (a : ℕ) → 0 < n → T (le_z (neg_ℤ (pos n)) (pos a))
@@ -62,38 +63,38 @@ ceil_of_floor b d q h k =
 
 -- ---- an answer under the limit is the one number that is described
 
-other_kinds : (q : ℤ) → TooLarge ≡ Of q → ⊥
+other_kinds : (q : ℤ) → ◌≡◌ {A = Whole} (Err TooLarge) (Ok q) → ⊥
 other_kinds q e = let z : ◌≡◌ {A = ℕ} 0 1 = cc in omega arith
 
 module _ (n d : ℕ) (z : ℤ) where
-  pub answered : (P : ℤ → Type 0) → n < limit * d → P z → ((p q : ℤ) → P p → P q → p ≡ q) → (q : ℤ) → (under_limit n d z ≡ Of q) ↔ P q
+  pub answered : (P : ℤ → Type 0) → n < limit * d → P z → ((p q : ℤ) → P p → P q → p ≡ q) → (q : ℤ) → (under_limit n d z ≡ Ok q) ↔ P q
   answered P l h one q =
       let e = lt-ltb n (limit * d) l in
-      let is : under_limit n d z ≡ Of z = ap (λ (b : Bool). pick_whole b (Of z) TooLarge) e in (
+      let is : under_limit n d z ≡ Ok z = ap (λ (b : Bool). pick_whole b (Ok z) (Err TooLarge)) e in (
         (λ r. let s : z ≡ q = same z q (sym is ∙ r) in subst P s h),
-        (λ r. is ∙ ap Of (one z q h r)),
+        (λ r. is ∙ ap Ok (one z q h r)),
       )
     where
-      same : (p q : ℤ) → Of p ≡ Of q → p ≡ q
+      same : (p q : ℤ) → ◌≡◌ {A = Whole} (Ok p) (Ok q) → p ≡ q
       same p q e = cc
 
-  pub too_large : (under_limit n d z ≡ TooLarge) ↔ (limit * d ≤ n)
-  too_large = ((λ r. ltb-false n (limit * d) (go (ltb n (limit * d)) refl r)), (λ l. ap (λ (b : Bool). pick_whole b (Of z) TooLarge) (le-ltb n (limit * d) l)))
+  pub too_large : (under_limit n d z ≡ Err TooLarge) ↔ (limit * d ≤ n)
+  too_large = ((λ r. ltb-false n (limit * d) (go (ltb n (limit * d)) refl r)), (λ l. ap (λ (b : Bool). pick_whole b (Ok z) (Err TooLarge)) (le-ltb n (limit * d) l)))
     where
-      go : (b : Bool) → ltb n (limit * d) ≡ b → pick_whole b (Of z) TooLarge ≡ TooLarge → ltb n (limit * d) ≡ false
+      go : (b : Bool) → ltb n (limit * d) ≡ b → pick_whole b (Ok z) (Err TooLarge) ≡ Err TooLarge → ltb n (limit * d) ≡ false
       go true e r = absurd (other_kinds z (sym r))
       go false e r = e
 
 module _ (s : Bool) (m : ℕ) (e : ℤ) (l : m * up e < limit * down e) (q : ℤ) where
   -- 01: q is the largest whole number not above p t + 1/2, of the exact t
-  pub nearest_means : (p : ℕ) → (nearest_of p (fin s m e) ≡ Of q) ↔ IsNearest p s m e q
+  pub nearest_means : (p : ℕ) → (nearest_of p (fin s m e) ≡ Ok q) ↔ IsNearest p s m e q
   unfolding nearest_of
   nearest_means p =
       let a = signed s (2 * p * (m * up e)) +ℤ pos (down e) in
       let d = 2 * down e in
       answered (m * up e) (down e) (floor_z a d) (IsFloor a d) l (floor_is a d (mul-pos (zero-lt-suc 1) (down_pos e))) (floor_one a d) q
 
-  pub ceil_means : (ceil_of (fin s m e) ≡ Of q) ↔ IsCeiling s m e q
+  pub ceil_means : (ceil_of (fin s m e) ≡ Ok q) ↔ IsCeiling s m e q
   unfolding ceil_of
   ceil_means =
       let a = signed s (m * up e) in
@@ -106,7 +107,7 @@ module _ (s : Bool) (m : ℕ) (e : ℤ) (l : m * up e < limit * down e) (q : ℤ
           subst (λ (b : ℤ). IsCeil b d (neg_ℤ (floor_z (neg_ℤ (pos n)) d))) (neg_ℤ-neg_ℤ (pos n))
           (ceil_of_floor (neg_ℤ (pos n)) d (floor_z (neg_ℤ (pos n)) d) (floor_is (neg_ℤ (pos n)) d D))
 
-pub trunc_means : (s : Bool) (m : ℕ) (e : ℤ) → m * up e < limit * down e → (q : ℤ) → (trunc_of (fin s m e) ≡ Of q) ↔ IsTruncation s m e q
+pub trunc_means : (s : Bool) (m : ℕ) (e : ℤ) → m * up e < limit * down e → (q : ℤ) → (trunc_of (fin s m e) ≡ Ok q) ↔ IsTruncation s m e q
 unfolding trunc_of
 trunc_means false m e l q =
     let n = m * up e in

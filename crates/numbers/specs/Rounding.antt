@@ -1,11 +1,11 @@
 -- What the functions of `numbers` answer, of the exact value of an f32: `fin s m e` is m * 2 ^ e, negative where s is true, and 2 ^ e is the fraction up e / down e.
 -- The meaning of each answer (`IsFloor`, `IsCeil`) and its computation; proofs/Meaning.antt joins them.
-use Rattle.std.specs.Prelude.{ℕ, ◌-◌, ◌*◌, ◌/◌, ◌^◌, Bool, true, false, not, ◌↔◌, T, ltb, ℤ, pos, neg_ℤ, ◌+ℤ◌, ◌*ℤ◌, Float}
+use Rattle.std.specs.Prelude.{ℕ, ◌-◌, ◌*◌, ◌/◌, ◌^◌, Bool, true, false, not, ◌↔◌, T, ltb, ℤ, pos, neg_ℤ, ◌+ℤ◌, ◌*ℤ◌, Float, Result, Ok, Err}
 use Rattle.std.specs.Int.Signed.{shr_z, le_z}
 use Rattle.std.specs.Float.{nan, inf, fin}
 use Rattle.std.specs.Float.Ieee.{up, down}
-use Rattle.numbers.specs.declared.Whole.{Whole}
-use Rattle.numbers.specs.declared.Whole.TheVariants.{Of, TooLarge, NotANumber}
+use Rattle.numbers.specs.declared.NoWhole.{NoWhole}
+use Rattle.numbers.specs.declared.NoWhole.TheVariants.{TooLarge, NotANumber}
 
 -- n, or -n where s is true
 abbrev pub signed : Bool → ℕ → ℤ
@@ -61,36 +61,40 @@ floor_z a d = shr_z a d
 abbrev pub limit : ℕ
 limit = 2 ^ 40
 
+-- a whole number, or why none is given
+abbrev pub Whole : Type 0
+Whole = Result ℤ NoWhole
+
 abbrev pub pick_whole : Bool → Whole → Whole → Whole
 pick_whole true a b = a
 pick_whole false a b = b
 
 -- the answer for a value of magnitude n / d: z where that is under the limit
 abbrev pub under_limit : ℕ → ℕ → ℤ → Whole
-under_limit n d z = pick_whole (ltb n (limit * d)) (Of z) TooLarge
+under_limit n d z = pick_whole (ltb n (limit * d)) (Ok z) (Err TooLarge)
 
 -- the largest whole number not above k x
 unfoldable pub floor_times : ℕ → Float → Whole
-floor_times k nan = NotANumber
-floor_times k (inf s) = TooLarge
+floor_times k nan = Err NotANumber
+floor_times k (inf s) = Err TooLarge
 floor_times k (fin s m e) = under_limit (m * up e) (down e) (floor_z (signed s (k * (m * up e))) (down e))
 
 -- the least whole number not below x: the floor of -x, negated
 unfoldable pub ceil_of : Float → Whole
-ceil_of nan = NotANumber
-ceil_of (inf s) = TooLarge
+ceil_of nan = Err NotANumber
+ceil_of (inf s) = Err TooLarge
 ceil_of (fin s m e) = under_limit (m * up e) (down e) (neg_ℤ (floor_z (signed (not s) (m * up e)) (down e)))
 
 -- x without its fraction
 unfoldable pub trunc_of : Float → Whole
-trunc_of nan = NotANumber
-trunc_of (inf s) = TooLarge
+trunc_of nan = Err NotANumber
+trunc_of (inf s) = Err TooLarge
 trunc_of (fin s m e) = under_limit (m * up e) (down e) (signed s (m * up e / down e))
 
 -- the largest whole number not above k x + 1/2
 unfoldable pub nearest_of : ℕ → Float → Whole
-nearest_of k nan = NotANumber
-nearest_of k (inf s) = TooLarge
+nearest_of k nan = Err NotANumber
+nearest_of k (inf s) = Err TooLarge
 nearest_of k (fin s m e) = under_limit (m * up e) (down e) (floor_z (signed s (2 * k * (m * up e)) +ℤ pos (down e)) (2 * down e))
 
 -- 01, Sizing and placement: "Its cell is (q + 128) div 256, rounded down."

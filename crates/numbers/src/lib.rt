@@ -13,9 +13,9 @@ pub const SIDE: i64 = 1 << SPLITS;
 
 pub const HALF: i64 = 1 << (SPLITS - 1);
 
-#[derive(Clone, Copy)]
-pub enum Whole {
-    Of(i64),
+// Why no whole number is given of an f32.
+#[derive(Clone, Copy, Debug, PartialEq, Eq)]
+pub enum NoWhole {
     // 2 ^ 40 or more in magnitude, an infinity too
     TooLarge,
     NotANumber,
@@ -41,12 +41,12 @@ fn shifted(neg: bool, d: u32, k: u32) -> i64
 }
 
 // The largest whole number not above x * 2 ^ places.
-fn floor_scaled(x: f32, places: u32) -> Whole
+fn floor_scaled(x: f32, places: u32) -> Result<i64, NoWhole>
     requires { places ≤ 12 }
     ensures { result ≡ floor_times (2 ^ places) x }
 {
     if x != x {
-        return Whole::NotANumber;
+        return Err(NoWhole::NotANumber);
     }
     let bits = f32::to_bits(x);
     let neg = 2147483648 <= bits;
@@ -54,27 +54,24 @@ fn floor_scaled(x: f32, places: u32) -> Whole
     let digits = bits % 8388608;
     let large = 167 <= field;
     if large {
-        return Whole::TooLarge;
+        return Err(NoWhole::TooLarge);
     }
     if field == 0 {
-        return Whole::Of(shifted(neg, digits, 179 - places));
+        return Ok(shifted(neg, digits, 179 - places));
     }
-    Whole::Of(shifted(neg, 8388608 + digits, 180 - places - field))
+    Ok(shifted(neg, 8388608 + digits, 180 - places - field))
 }
 
 // The least whole number not below x.
-pub fn ceil(x: f32) -> Whole
+pub fn ceil(x: f32) -> Result<i64, NoWhole>
     ensures { result ≡ ceil_of x }
 {
-    match floor_scaled(-x, 0) {
-        Whole::Of(n) => Whole::Of(0 - n),
-        Whole::TooLarge => Whole::TooLarge,
-        Whole::NotANumber => Whole::NotANumber,
-    }
+    let n = floor_scaled(-x, 0)?;
+    Ok(0 - n)
 }
 
 // x without its fraction.
-pub fn trunc(x: f32) -> Whole
+pub fn trunc(x: f32) -> Result<i64, NoWhole>
     ensures { result ≡ trunc_of x }
 {
     if x < 0.0 {
@@ -84,14 +81,11 @@ pub fn trunc(x: f32) -> Whole
 }
 
 // The largest whole number not above units * t + 1/2: half of one more than the floor of 2 * units * t.
-pub fn to_units(t: f32) -> Whole
+pub fn to_units(t: f32) -> Result<i64, NoWhole>
     ensures { result ≡ nearest_of units t }
 {
-    match floor_scaled(t, SPLITS + 1) {
-        Whole::Of(n) => Whole::Of((n + 1) >> 1),
-        Whole::TooLarge => Whole::TooLarge,
-        Whole::NotANumber => Whole::NotANumber,
-    }
+    let n = floor_scaled(t, SPLITS + 1)?;
+    Ok((n + 1) >> 1)
 }
 
 // The cell of a coordinate of q units: (q + half a side) div a side, rounded down. Half of one more

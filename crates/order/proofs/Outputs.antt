@@ -1,4 +1,5 @@
 -- Laws of specs/Output.antt: writing nothing, one number, one list and then another; and what stands at the front. And of one check after another. Assumes nothing.
+use Rattle.std.specs.Prelude.{Ok, Err}
 use mathlib.Core.Logic.{◌⊎◌, inl, inr, ⊎_elim}
 use mathlib.Core.Path.{◌≡◌, refl, sym, ap, ◌∙◌, subst}
 use mathlib.Core.List.{List, [], ◌∷◌, ◌++◌}
@@ -8,13 +9,12 @@ use lib.Dec.{T, ltb}
 use lib.ListN.{length, get_or, take, drop, set, length-append, length-drop, length-set, get_or-append}
 use lib.Seq.{get_or-set_same, get_or-set_other, get_or-append-add, get_or-drop, get_or-take, length-take-le, ext_get_or}
 use borrow.Author.Tests.{ltb-false}
-use Rattle.grid.specs.declared.Checked.{Checked}
-use Rattle.grid.specs.declared.Checked.TheVariants.{Fine, Fault}
 use Rattle.grid.specs.declared.Refusal.{Refusal}
-use Rattle.grid.specs.Answers.{answers, refuses, ◌and_then◌, unless, lent_after, is_one_of, Finds}
+use Rattle.grid.specs.Answers.{◌and_then◌, is_one_of, Finds, Checked}
 use Rattle.grid.proofs.First.{le_or_lt}
 use Rattle.grid.proofs.Checks.{passed, finds_if}
 use Rattle.order.specs.Output.{room_fault, over, Written}
+use Rattle.grid.specs.declared.Reason.TheVariants.{NoRoom}
 
 -- an element of one list after another
 module _ {A : Type 0} (d : A) (xs ys : List A) where
@@ -120,21 +120,16 @@ module _ {A : Type 0} (d : A) where
 
 -- ---- one check and then another
 
-pub then_first : (a b : Checked) (f : Refusal) → Fault f ≡ a → Fault f ≡ (a and_then b)
+pub then_first : (a b : Checked) (f : Refusal) → Err f ≡ a → Err f ≡ (a and_then b)
 then_first a b f e = ap (λ (x : Checked). x and_then b) e
 
-pub then_next : (a b : Checked) → a ≡ Fine → b ≡ (a and_then b)
+pub then_next : (a b : Checked) → a ≡ Ok tt → b ≡ (a and_then b)
 then_next a b e = sym (ap (λ (x : Checked). x and_then b) e)
 
 -- the one number that a check of room finds
 pub finds_room : (ns : List ℕ) (len need : ℕ) → T (is_one_of 14 ns) → Finds ns (room_fault len need)
-finds_room ns len need h = finds_if ns (ltb len need) 14 0 Fine h tt
+finds_room ns len need h = finds_if ns (ltb len need) NoRoom 0 (Ok tt) h tt
 
 -- and one that found nothing
-pub room_fine : (len need : ℕ) → room_fault len need ≡ Fine → need ≤ len
-room_fine len need h = ltb-false len need (passed (ltb len need) 14 0 Fine h).0
-
--- a refusal leaves a lent buffer as it was
-pub refused_same : {A B : Type 0} (f : Checked) (a : A) (n k : ℕ) (before after : B) → unless f (answers a) ≡ refuses n k → lent_after f before after ≡ before
-refused_same (Fault f) a n k before after h = refl
-refused_same Fine a n k before after h = absurd (let z : ◌≡◌ {A = ℕ} 0 1 = cc in omega arith)
+pub room_fine : (len need : ℕ) → room_fault len need ≡ Ok tt → need ≤ len
+room_fine len need h = ltb-false len need (passed (ltb len need) NoRoom 0 (Ok tt) h).0

@@ -1,13 +1,11 @@
 -- Lent outputs: refusal 14, and what a list that is written leaves. Definitions only.
-use Rattle.std.specs.Prelude.{◌⊎◌, ◌≡◌, List, ◌++◌, ℕ, ◌+◌, ◌≤◌, ◌<◌, ltb, length, get_or, drop}
-use Rattle.grid.specs.declared.Checked.{Checked}
-use Rattle.grid.specs.declared.Checked.TheVariants.{Fine}
-use Rattle.grid.specs.Answers.{fault_if}
-use Rattle.grid.specs.Refusals.{NO_ROOM}
+use Rattle.std.specs.Prelude.{◌⊎◌, ◌≡◌, List, ◌++◌, ℕ, ◌+◌, ◌≤◌, ◌<◌, ltb, length, get_or, drop, Ok}
+use Rattle.grid.specs.Answers.{fault_if, Checked}
+use Rattle.grid.specs.declared.Reason.TheVariants.{NoRoom}
 
 -- "14: an output buffer is shorter than the answer": of a buffer's length and of the numbers that the answer has
 abbrev pub room_fault : ℕ → ℕ → Checked
-room_fault len need = fault_if (ltb len need) NO_ROOM 0 Fine
+room_fault len need = fault_if (ltb len need) NoRoom 0 (Ok tt)
 
 -- 01, Input bounds and refusals: "on success, output past the answer stays as it was". The buffer o with xs written over its front
 unfoldable pub over : {A : Type 0} → List A → List A → List A

@@ -7,7 +7,7 @@ ghost use Rattle.grid.specs.Grid.{Sound, InGrid};
 ghost use Rattle.order.specs.Order.{next_cell, AtOrPast, known_labels};
 ghost use Rattle.order.specs.Output.{room_fault};
 
-use grid::{Axes, Cell, Checked, LabelRange, LabelSet, SURFACE, UNDEFINED};
+use grid::{Axes, Cell, LabelRange, LabelSet, Reason, Refusal, SURFACE, UNDEFINED};
 
 // The next cell in list order; after the last, i is r0.
 pub fn following(r: Axes, c: Cell) -> Cell
@@ -46,11 +46,11 @@ pub fn known_labels() -> LabelSet
 }
 
 // Refusal 14 of an output of this length that needs room for so many numbers.
-pub fn room_fault(len: usize, need: u64) -> Checked
+pub fn room_fault(len: usize, need: u64) -> Result<(), Refusal>
     ensures { result ≡ room_fault len need }
 {
     if (len as u64) < need {
-        return grid::fault(grid::NO_ROOM, 0);
+        return Err(Reason::NoRoom.at(0));
     }
-    Checked::Fine
+    Ok(())
 }

@@ -1,4 +1,8 @@
 -- What the contracts of `planes_about` and `split_points` say: their numbers, that a refusal leaves what is lent, that two results coincide, and what the planes and sides mean. Assumes nothing.
+use Rattle.grid.specs.declared.Refusal.{Refusal}
+use Rattle.planes.specs.declared.Sides.{Sides}
+use Rattle.planes.specs.declared.Planes.{Planes}
+use Rattle.std.specs.Prelude.{Ok, Err}
 use mathlib.Core.Bool.{true, false, not, ◌&&◌, ◌||◌, true≢false}
 use mathlib.Core.List.{List, [], ◌∷◌}
 use mathlib.Core.Path.{◌≡◌, refl, sym, ap, ◌∙◌}
@@ -10,57 +14,53 @@ use lib.Signed.{lt_z}
 use lib.ListN.{length, get_or}
 use lib.Ieee.{Float, nan, fin, binary32, le, eq, div}
 use borrow.Author.Tests.{le-ltb}
-use Rattle.grid.specs.declared.Checked.TheVariants.{Fine}
 use Rattle.grid.specs.declared.Placement.{Placement}
-use Rattle.grid.specs.Answers.{refuses, is_one_of, Finds, Gives}
-use Rattle.grid.proofs.Checks.{finds_if, finds_then, finds_first, gives_unless}
+use Rattle.grid.specs.Answers.{Outcome, is_one_of, Finds, Gives}
+use Rattle.grid.proofs.Checks.{finds_if, finds_then, finds_first, gives_then, refused_same}
 use Rattle.sizing.specs.Points.{bounded, length_fault, numbers_fault}
 use Rattle.marking_mesh.specs.Faults.{origin_fault, least_scale, greatest_scale, lent_fault}
 use Rattle.order.specs.Output.{room_fault}
-use Rattle.order.proofs.Outputs.{finds_room, refused_same}
-use Rattle.planes.specs.declared.Planing.{Planing}
-use Rattle.planes.specs.declared.Planing.TheVariants as planing
-use Rattle.planes.specs.declared.Splitting.{Splitting}
-use Rattle.planes.specs.declared.Splitting.TheVariants as splitting
+use Rattle.order.proofs.Outputs.{finds_room}
 use Rattle.planes.specs.declared.Side.TheVariants.{First, Second}
-use Rattle.planes.specs.Planes.{outcome_of_planes, axis_fault, out_of_range, plane_count, plane_at, planes_of, planes_fault, all_planes_fault, planes_answer, planes_buffer}
-use Rattle.planes.specs.Split.{outcome_of_split, exact_sum, goes_to, split_count, d_fault, split_fault, all_split_fault, split_answer, split_buffer}
+use Rattle.planes.specs.Planes.{axis_fault, out_of_range, plane_count, plane_at, planes_of, planes_fault, all_planes_fault, planes_answer, planes_buffer}
+use Rattle.planes.specs.Split.{exact_sum, goes_to, split_count, d_fault, split_fault, all_split_fault, split_answer, split_buffer}
 use Rattle.planes_range.proofs.Ranges.{planes_length, planes_at}
+use Rattle.grid.specs.declared.Reason.TheVariants.{BadCount, BadNumber, BadSize, OutOfRange}
 
 -- ---- which numbers the calls give
 
 finds_axis : (ns : List ℕ) (axis : ℕ) → T (is_one_of 12 ns) → Finds ns (axis_fault axis)
-finds_axis ns axis h = finds_if ns (ltb 2 axis) 12 0 Fine h tt
+finds_axis ns axis h = finds_if ns (ltb 2 axis) OutOfRange 0 (Ok tt) h tt
 
 pub planes_numbers : (placement : Placement) (axis low high best step : ℕ) (o : List Float) → Gives (3 ∷ 5 ∷ 12 ∷ 14 ∷ []) (planes_answer placement axis low high best step o)
-planes_numbers placement axis low high best step o = gives_unless ns (all_planes_fault placement axis low high best step (length o)) _ all (λ f. tt)
+planes_numbers placement axis low high best step o = gives_then ns (all_planes_fault placement axis low high best step (length o)) _ all (λ f. tt)
   where
     ns : List ℕ
     ns = 3 ∷ 5 ∷ 12 ∷ 14 ∷ []
 
     lent : Finds ns (lent_fault placement)
-    lent = finds_if ns (not (le least_scale placement.scale && le placement.scale greatest_scale && eq placement.reciprocal (div binary32 (fin false 1 (pos 0)) placement.scale))) 5 0 Fine tt tt
+    lent = finds_if ns (not (le least_scale placement.scale && le placement.scale greatest_scale && eq placement.reciprocal (div binary32 (fin false 1 (pos 0)) placement.scale))) BadSize 0 (Ok tt) tt tt
 
     before : Finds ns (planes_fault placement axis low high best step)
     before =
-        finds_then ns (origin_fault placement) _ (finds_first ns 3 (λ n. 0 + n) (bounded 20) (placement.x ∷ placement.y ∷ placement.z ∷ []) tt)
+        finds_then ns (origin_fault placement) _ (finds_first ns BadNumber (λ n. 0 + n) (bounded 20) (placement.x ∷ placement.y ∷ placement.z ∷ []) tt)
         (finds_then ns (lent_fault placement) _ lent
-        (finds_then ns (axis_fault axis) _ (finds_axis ns axis tt) (finds_if ns (out_of_range low high best step) 12 0 Fine tt tt)))
+        (finds_then ns (axis_fault axis) _ (finds_axis ns axis tt) (finds_if ns (out_of_range low high best step) OutOfRange 0 (Ok tt) tt tt)))
 
     all : Finds ns (all_planes_fault placement axis low high best step (length o))
     all = finds_then ns (planes_fault placement axis low high best step) _ before (finds_room ns (length o) (plane_count low high best step) tt)
 
 pub split_numbers : (ps : List Float) (axis : ℕ) (d : Float) (above below : List Float) → Gives (1 ∷ 3 ∷ 12 ∷ 14 ∷ []) (split_answer ps axis d above below)
-split_numbers ps axis d above below = gives_unless ns (all_split_fault ps axis d (length above) (length below)) _ all (λ f. tt)
+split_numbers ps axis d above below = gives_then ns (all_split_fault ps axis d (length above) (length below)) _ all (λ f. tt)
   where
     ns : List ℕ
     ns = 1 ∷ 3 ∷ 12 ∷ 14 ∷ []
 
     before : Finds ns (split_fault ps axis d)
     before =
-        finds_then ns (length_fault (length ps)) _ (finds_if ns (not (eqb (length ps % 3) 0) || ltb 65536 (length ps / 3)) 1 0 Fine tt tt)
-        (finds_then ns (d_fault d) _ (finds_if ns (not (bounded 30 d)) 3 0 Fine tt tt)
-        (finds_then ns (numbers_fault 1 ps) _ (finds_first ns 3 (λ n. 1 + n) (bounded 20) ps tt) (finds_axis ns axis tt)))
+        finds_then ns (length_fault (length ps)) _ (finds_if ns (not (eqb (length ps % 3) 0) || ltb 65536 (length ps / 3)) BadCount 0 (Ok tt) tt tt)
+        (finds_then ns (d_fault d) _ (finds_if ns (not (bounded 30 d)) BadNumber 0 (Ok tt) tt tt)
+        (finds_then ns (numbers_fault 1 ps) _ (finds_first ns BadNumber (λ n. 1 + n) (bounded 20) ps tt) (finds_axis ns axis tt)))
 
     all : Finds ns (all_split_fault ps axis d (length above) (length below))
     all =
@@ -70,47 +70,29 @@ split_numbers ps axis d above below = gives_unless ns (all_split_fault ps axis d
 
 -- ---- a refusal leaves every lent number
 
-pub planes_refused_same : (placement : Placement) (axis low high best step : ℕ) (o : List Float) (n k : ℕ)
-    → planes_answer placement axis low high best step o ≡ refuses n k → planes_buffer placement axis low high best step o ≡ o
-planes_refused_same placement axis low high best step o n k h = refused_same (all_planes_fault placement axis low high best step (length o)) _ n k o _ h
+pub planes_refused_same : (placement : Placement) (axis low high best step : ℕ) (o : List Float) (f : Refusal)
+    → planes_answer placement axis low high best step o ≡ Err f → planes_buffer placement axis low high best step o ≡ o
+planes_refused_same placement axis low high best step o f h = refused_same (all_planes_fault placement axis low high best step (length o)) _ f o _ h
 
-pub split_refused_same : (ps : List Float) (axis : ℕ) (d : Float) (above below : List Float) (n k : ℕ) → split_answer ps axis d above below ≡ refuses n k
+pub split_refused_same : (ps : List Float) (axis : ℕ) (d : Float) (above below : List Float) (f : Refusal) → split_answer ps axis d above below ≡ Err f
     → (split_buffer First ps axis d above above below ≡ above) × (split_buffer Second ps axis d below above below ≡ below)
-split_refused_same ps axis d above below n k h =
+split_refused_same ps axis d above below f h =
     let checks = all_split_fault ps axis d (length above) (length below) in
-    (refused_same checks _ n k above _ h, refused_same checks _ n k below _ h)
+    (refused_same checks _ f above _ h, refused_same checks _ f below _ h)
 
 -- ---- two results that fit the promise are one
 
-planing_one : (a b : Planing) → outcome_of_planes a ≡ outcome_of_planes b → a ≡ b
-planing_one (planing.Planned p) (planing.Planned q) h = let e : p ≡ q = cc in ap planing.Planned e
-planing_one (planing.Planned p) (planing.Refused g) h = absurd (let z : ◌≡◌ {A = ℕ} 0 1 = cc in omega arith)
-planing_one (planing.Refused f) (planing.Planned q) h = absurd (let z : ◌≡◌ {A = ℕ} 0 1 = cc in omega arith)
-planing_one (planing.Refused f) (planing.Refused g) h =
-    let e : f.number ≡ g.number = cc in
-    let k : f.place ≡ g.place = cc in
-    λ t. planing.Refused (record { number = e t; place = k t })
-
-splitting_one : (a b : Splitting) → outcome_of_split a ≡ outcome_of_split b → a ≡ b
-splitting_one (splitting.Split p) (splitting.Split q) h = let e : p ≡ q = cc in ap splitting.Split e
-splitting_one (splitting.Split p) (splitting.Refused g) h = absurd (let z : ◌≡◌ {A = ℕ} 0 1 = cc in omega arith)
-splitting_one (splitting.Refused f) (splitting.Split q) h = absurd (let z : ◌≡◌ {A = ℕ} 0 1 = cc in omega arith)
-splitting_one (splitting.Refused f) (splitting.Refused g) h =
-    let e : f.number ≡ g.number = cc in
-    let k : f.place ≡ g.place = cc in
-    λ t. splitting.Refused (record { number = e t; place = k t })
-
-pub planes_settled : (placement : Placement) (axis low high best step : ℕ) (o : List Float) (a b : Planing) (m n : List Float)
-    → outcome_of_planes a ≡ planes_answer placement axis low high best step o → outcome_of_planes b ≡ planes_answer placement axis low high best step o
+pub planes_settled : (placement : Placement) (axis low high best step : ℕ) (o : List Float) (a b : Outcome Planes) (m n : List Float)
+    → a ≡ planes_answer placement axis low high best step o → b ≡ planes_answer placement axis low high best step o
     → m ≡ planes_buffer placement axis low high best step o → n ≡ planes_buffer placement axis low high best step o → (a ≡ b) × (m ≡ n)
-planes_settled placement axis low high best step o a b m n e f g h = (planing_one a b (e ∙ sym f), g ∙ sym h)
+planes_settled placement axis low high best step o a b m n e f g h = ((e ∙ sym f), g ∙ sym h)
 
-pub split_settled : (ps : List Float) (axis : ℕ) (d : Float) (above below : List Float) (a b : Splitting) (m n u v : List Float)
-    → outcome_of_split a ≡ split_answer ps axis d above below → outcome_of_split b ≡ split_answer ps axis d above below
+pub split_settled : (ps : List Float) (axis : ℕ) (d : Float) (above below : List Float) (a b : Outcome Sides) (m n u v : List Float)
+    → a ≡ split_answer ps axis d above below → b ≡ split_answer ps axis d above below
     → m ≡ split_buffer First ps axis d above above below → n ≡ split_buffer First ps axis d above above below
     → u ≡ split_buffer Second ps axis d below above below → v ≡ split_buffer Second ps axis d below above below
     → (a ≡ b) × (m ≡ n) × (u ≡ v)
-split_settled ps axis d above below a b m n u v e f g h i j = (splitting_one a b (e ∙ sym f), g ∙ sym h, i ∙ sym j)
+split_settled ps axis d above below a b m n u v e f g h i j = ((e ∙ sym f), g ∙ sym h, i ∙ sym j)
 
 -- ---- the planes: as many as are asked, each at the next index
 pub planes_count : (origin scale : Float) (first n : ℕ)

@@ -1,5 +1,6 @@
 -- Laws of specs/Split.antt: the side of a rounded sum, and the points of a side one after the other. Assumes nothing.
-use mathlib.Core.Bool.{Bool, true, false, not, ◌&&◌, ◌||◌, true≢false}
+use Rattle.std.specs.Prelude.{Ok}
+use mathlib.Core.Bool.{Bool, true, false, not, cond, ◌&&◌, ◌||◌, true≢false}
 use mathlib.Core.List.{List, [], ◌∷◌, ◌++◌}
 use mathlib.Core.Path.{◌≡◌, refl, sym, ap, subst, ◌∙◌}
 use Prim.Native.Nat.{ℕ, ◌+◌, ◌*◌, ◌/◌, ◌%◌, ◌≤◌, ◌<◌}
@@ -8,7 +9,6 @@ use lib.Dec.{T, eqb, ltb}
 use lib.ListN.{length, get_or, set, length-append}
 use lib.Ieee.{Float, nan, inf, fin, binary32, fits, add, lt, le, neg, of_bits}
 use borrow.Author.Tests.{ltb-false, not-false}
-use Rattle.grid.specs.declared.Checked.TheVariants.{Fine}
 use Rattle.grid.specs.Answers.{◌and_then◌}
 use Rattle.grid.proofs.Checks.{passed, both_fine, or_false, first_fine}
 use Rattle.numbers.proofs.Sign.{Sides, add_sides}
@@ -24,6 +24,7 @@ use Rattle.planes.specs.declared.Side.TheVariants.{First, Second}
 use Rattle.planes.specs.Planes.{axis_fault}
 use Rattle.planes.specs.Split.{exact_sum, goes_to, point_of, split_count, split_to, d_fault, split_fault, rooms_fault, Bounded}
 use Rattle.planes_range.proofs.Ranges.{axis_fine}
+use Rattle.grid.specs.declared.Reason.TheVariants.{BadCount, BadNumber}
 
 -- ---- the bound on d, as the code has it
 
@@ -53,22 +54,22 @@ module _ (p d : Float) (b : (bounded 20 p ≡ true) × (bounded 30 d ≡ true)) 
 
 -- ---- what no fault says
 
-pub split_fine : (ps : List Float) (axis : ℕ) (d : Float) → split_fault ps axis d ≡ Fine → (axis ≤ 2) × Bounded ps d
+pub split_fine : (ps : List Float) (axis : ℕ) (d : Float) → split_fault ps axis d ≡ Ok tt → (axis ≤ 2) × Bounded ps d
 split_fine ps axis d h =
     let n = length ps in
     let a = both_fine (length_fault n) (d_fault d and_then numbers_fault 1 ps and_then axis_fault axis) h in
     let b = both_fine (d_fault d) (numbers_fault 1 ps and_then axis_fault axis) a.1 in
     let c = both_fine (numbers_fault 1 ps) (axis_fault axis) b.1 in
-    let l = or_false (not (eqb (n % 3) 0)) (ltb 65536 (n / 3)) (passed (not (eqb (n % 3) 0) || ltb 65536 (n / 3)) 1 0 Fine a.0).0 in (
+    let l = or_false (not (eqb (n % 3) 0)) (ltb 65536 (n / 3)) (passed (not (eqb (n % 3) 0) || ltb 65536 (n / 3)) BadCount 0 (Ok tt) a.0).0 in (
       axis_fine axis c.1,
       record {
-        each = (first_fine 3 (λ n. 1 + n) (bounded 20) nan ps).0 c.0;
-        plane = not-false (bounded 30 d) (passed (not (bounded 30 d)) 3 0 Fine b.0).0;
+        each = (first_fine BadNumber (λ n. 1 + n) (bounded 20) nan ps).0 c.0;
+        plane = not-false (bounded 30 d) (passed (not (bounded 30 d)) BadNumber 0 (Ok tt) b.0).0;
         few = omega (arith, ltb-false 65536 (n / 3) l.1);
       },
     )
 
-pub rooms_fine : (a b m n : ℕ) → rooms_fault a b m n ≡ Fine → (3 * a ≤ m) × (3 * b ≤ n)
+pub rooms_fine : (a b m n : ℕ) → rooms_fault a b m n ≡ Ok tt → (3 * a ≤ m) × (3 * b ≤ n)
 rooms_fine a b m n h =
     let w = both_fine (room_fault m (3 * a)) (room_fault n (3 * b)) h in
     (room_fine m (3 * a) w.0, room_fine n (3 * b) w.1)
@@ -128,8 +129,8 @@ module _ (side : Side) (ps : List Float) (axis : ℕ) (d : Float) where
 
   module _ (v : ℕ) (h : v < points ps) where
     module _ (e : goes v ≡ false) where
-      pub counted_same : (n : ℕ) → Counted n v → Counted n (v + 1)
-      counted_same n w = record { so_far = w.so_far ∙ ap (λ (vs : List ℕ). length vs) (sym (chosen_without goes v e)); few = omega (arith, w.few); within = omega arith }
+      none_more : length (chosen goes (v + 1)) ≡ length (chosen goes v)
+      none_more = ap (λ (vs : List ℕ). length vs) (chosen_without goes v e)
 
       pub parted_same : (o m : List Float) (n : ℕ) → Parted o m n v → Parted o m n (v + 1)
       parted_same o m n w =
@@ -144,9 +145,6 @@ module _ (side : Side) (ps : List Float) (axis : ℕ) (d : Float) where
     module _ (e : goes v ≡ true) where
       one_more : length (chosen goes (v + 1)) ≡ length (chosen goes v) + 1
       one_more = ap (λ (vs : List ℕ). length vs) (chosen_with goes v e) ∙ length-append (chosen goes v) (v ∷ [])
-
-      pub counted_more : (n : ℕ) → Counted n v → Counted (n + 1) (v + 1)
-      counted_more n w = record { so_far = omega (arith, w.so_far, one_more); few = omega (arith, w.few); within = omega arith }
 
       -- there is room for its three numbers
       pub parted_room : (o m : List Float) (n : ℕ) → Parted o m n v → 3 * split_count side ps axis d ≤ length o → n + 3 ≤ length m
@@ -165,3 +163,7 @@ module _ (side : Side) (ps : List Float) (axis : ℕ) (d : Float) where
           joined : join_all (point_of ps) (chosen goes v) ++ point_of ps v ≡ join_all (point_of ps) (chosen goes (v + 1))
           joined =
               sym (ap (join_all (point_of ps)) (chosen_with goes v e) ∙ join_append (point_of ps) (chosen goes v) (v ∷ []) ∙ ap (λ (l : List Float). join_all (point_of ps) (chosen goes v) ++ l) (join_one (point_of ps) v))
+
+    pub counted_on : (b : Bool) → goes v ≡ b → (n m : ℕ) → m ≡ cond b 1 0 → Counted n v → Counted (n + m) (v + 1)
+    counted_on true e n m f w = record { so_far = omega (arith, f, w.so_far, one_more e); few = omega (arith, f, w.few); within = omega arith }
+    counted_on false e n m f w = record { so_far = omega (arith, f, w.so_far, none_more e); few = omega (arith, f, w.few); within = omega arith }

@@ -1,20 +1,12 @@
 -- 01, List, classes, planes, boxes: the planes of one axis. Definitions only.
-use Rattle.std.specs.Prelude.{List, ℕ, length, Float}
-use Rattle.grid.specs.declared.Checked.{Checked}
+use Rattle.std.specs.Prelude.{List, ℕ, length, Float, Ok}
 use Rattle.grid.specs.declared.Placement.{Placement}
-use Rattle.grid.specs.Answers.{Outcome, answers, refuses, ◌and_then◌, unless, lent_after}
+use Rattle.grid.specs.Answers.{Outcome, ◌and_then◌, lent_after, Checked}
 use Rattle.marking_mesh.specs.Mesh.{origin_along}
 use Rattle.order.specs.Output.{room_fault, over}
 use Rattle.planes.specs.declared.Planes.{Planes}
-use Rattle.planes.specs.declared.Planing.{Planing}
-use Rattle.planes.specs.declared.Planing.TheVariants.{Planned, Refused}
 pub use Rattle.planes_range.specs.PlaneRange.{axis_fault, out_of_range, plane_range_fault, first_plane, last_plane, past_plane, plane_count, planes_fault}
 unfoldable pub use Rattle.planes_range.specs.PlaneRange.{plane_at, planes_of}
-
--- 01's number and values for each case of `Planing`
-abbrev pub outcome_of_planes : Planing → Outcome Planes
-outcome_of_planes (Planned p) = answers p
-outcome_of_planes (Refused f) = refuses f.number f.place
 
 -- the whole call: 3, 5 and 12, then 14
 abbrev pub all_planes_fault : Placement → ℕ → ℕ → ℕ → ℕ → ℕ → ℕ → Checked
@@ -22,7 +14,7 @@ all_planes_fault placement axis low high best step len = planes_fault placement 
 
 abbrev pub planes_answer : Placement → ℕ → ℕ → ℕ → ℕ → ℕ → List Float → Outcome Planes
 planes_answer placement axis low high best step o =
-    unless (all_planes_fault placement axis low high best step (length o)) (answers (record { first = first_plane low best step; count = plane_count low high best step }))
+    all_planes_fault placement axis low high best step (length o) and_then Ok (record { first = first_plane low best step; count = plane_count low high best step })
 
 abbrev pub planes_buffer : Placement → ℕ → ℕ → ℕ → ℕ → ℕ → List Float → List Float
 planes_buffer placement axis low high best step o =

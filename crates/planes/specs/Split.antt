@@ -1,12 +1,9 @@
 -- 01, List, classes, planes, boxes: points split by a plane. Definitions only.
-use Rattle.std.specs.Prelude.{Bool, true, not, List, [], ◌∷◌, ◌≡◌, ℕ, ◌*◌, ◌<◌, ℤ, pos, ◌+ℤ◌, length, get_or, Float}
+use Rattle.std.specs.Prelude.{Bool, true, not, List, [], ◌∷◌, ◌≡◌, ℕ, ◌*◌, ◌<◌, ℤ, pos, ◌+ℤ◌, length, get_or, Float, Ok}
 use Rattle.std.specs.Int.Signed.{lt_z}
 use Rattle.std.specs.Float.{nan, inf, fin}
 use Rattle.std.specs.Float.Ieee.{up, down}
-use Rattle.grid.specs.declared.Checked.{Checked}
-use Rattle.grid.specs.declared.Checked.TheVariants.{Fine}
-use Rattle.grid.specs.Answers.{Outcome, answers, refuses, fault_if, ◌and_then◌, unless, lent_after}
-use Rattle.grid.specs.Refusals.{BAD_NUMBER}
+use Rattle.grid.specs.Answers.{Outcome, fault_if, ◌and_then◌, lent_after, Checked}
 use Rattle.numbers.specs.Rounding.{signed}
 use Rattle.sizing.specs.Points.{bounded, length_fault, numbers_fault}
 use Rattle.sizing.specs.Sizing.{points, coord}
@@ -15,14 +12,8 @@ use Rattle.order.specs.Output.{room_fault, over}
 use Rattle.planes.specs.declared.Side.{Side}
 use Rattle.planes.specs.declared.Side.TheVariants.{First, Second}
 use Rattle.planes.specs.declared.Sides.{Sides}
-use Rattle.planes.specs.declared.Splitting.{Splitting}
-use Rattle.planes.specs.declared.Splitting.TheVariants.{Split, Refused}
 use Rattle.planes.specs.Planes.{axis_fault}
-
--- 01's number and values for each case of `Splitting`
-abbrev pub outcome_of_split : Splitting → Outcome Sides
-outcome_of_split (Split s) = answers s
-outcome_of_split (Refused f) = refuses f.number f.place
+use Rattle.grid.specs.declared.Reason.TheVariants.{BadNumber}
 
 -- 01, Form by location: "plane side sign is exact". p + d as it is, not rounded, for finite p = ±m 2^e and d = ±n 2^g: a whole number of 1 / (down e * down g), where up e / down e is 2^e
 unfoldable pub exact_sum : Float → Float → ℤ
@@ -53,7 +44,7 @@ split_to side ps axis d = join_all (point_of ps) (split_points side ps axis d)
 
 -- "3: .. a plane's d likewise, but over 2^30"; "a lent origin or d is numbered before them"
 abbrev pub d_fault : Float → Checked
-d_fault d = fault_if (not (bounded 30 d)) BAD_NUMBER 0 Fine
+d_fault d = fault_if (not (bounded 30 d)) BadNumber 0 (Ok tt)
 
 -- 14 of the two outputs, of lengths m and n, to which a and b points go
 abbrev pub rooms_fault : ℕ → ℕ → ℕ → ℕ → Checked
@@ -68,7 +59,7 @@ all_split_fault ps axis d m n = split_fault ps axis d and_then rooms_fault (spli
 
 abbrev pub split_answer : List Float → ℕ → Float → List Float → List Float → Outcome Sides
 split_answer ps axis d above below =
-    unless (all_split_fault ps axis d (length above) (length below)) (answers (record { first = split_count First ps axis d; second = split_count Second ps axis d }))
+    all_split_fault ps axis d (length above) (length below) and_then Ok (record { first = split_count First ps axis d; second = split_count Second ps axis d })
 
 -- the output o of a side, where the two are `above` and `below`
 abbrev pub split_buffer : Side → List Float → ℕ → Float → List Float → List Float → List Float → List Float

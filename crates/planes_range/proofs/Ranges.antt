@@ -1,4 +1,5 @@
 -- Laws of specs/PlaneRange.antt: what no fault says, and the planes one after the other. Assumes nothing.
+use Rattle.std.specs.Prelude.{Ok}
 use mathlib.Core.Bool.{Bool, true, false, cond, ◌||◌}
 use mathlib.Core.List.{List, [], ◌∷◌, ◌++◌}
 use mathlib.Core.Path.{◌≡◌, refl, ap, ◌∙◌}
@@ -9,15 +10,15 @@ use lib.Dec.{ltb, leb}
 use lib.Ieee.{Float, nan}
 use lib.ListN.{length, get_or}
 use borrow.Author.Tests.{ltb-true, ltb-false, leb-false}
-use Rattle.grid.specs.declared.Checked.TheVariants.{Fine}
 use Rattle.grid.specs.declared.Placement.{Placement}
 use Rattle.grid.specs.Answers.{◌and_then◌}
 use Rattle.grid.proofs.Checks.{passed, both_fine, or_false}
 use Rattle.marking_mesh.specs.Faults.{origin_fault, lent_fault}
 use Rattle.planes_range.specs.PlaneRange.{axis_fault, out_of_range, plane_range_fault, first_plane, past_plane, plane_count, plane_at, planes_of, planes_fault}
+use Rattle.grid.specs.declared.Reason.TheVariants.{OutOfRange}
 
-pub axis_fine : (axis : ℕ) → axis_fault axis ≡ Fine → axis ≤ 2
-axis_fine axis h = ltb-false 2 axis (passed (ltb 2 axis) 12 0 Fine h).0
+pub axis_fine : (axis : ℕ) → axis_fault axis ≡ Ok tt → axis ≤ 2
+axis_fine axis h = ltb-false 2 axis (passed (ltb 2 axis) OutOfRange 0 (Ok tt) h).0
 
 module _ (low high best step : ℕ) where
   -- indices and a step in their ranges
@@ -28,9 +29,9 @@ module _ (low high best step : ℕ) where
     pub ordered : low ≤ high
     pub step_in : step ≤ 256
 
-  pub range_fine : plane_range_fault low high best step ≡ Fine → InRange
+  pub range_fine : plane_range_fault low high best step ≡ Ok tt → InRange
   range_fine h =
-      let a = or_false (((leb 256 low || leb 256 high) || leb 256 best) || ltb high low) (ltb 256 step) (passed (out_of_range low high best step) 12 0 Fine h).0 in
+      let a = or_false (((leb 256 low || leb 256 high) || leb 256 best) || ltb high low) (ltb 256 step) (passed (out_of_range low high best step) OutOfRange 0 (Ok tt) h).0 in
       let b = or_false ((leb 256 low || leb 256 high) || leb 256 best) (ltb high low) a.0 in
       let c = or_false (leb 256 low || leb 256 high) (leb 256 best) b.0 in
       let d = or_false (leb 256 low) (leb 256 high) c.0 in
@@ -42,7 +43,7 @@ module _ (low high best step : ℕ) where
         step_in = ltb-false 256 step a.1;
       }
 
-  pub planes_fine : (placement : Placement) (axis : ℕ) → planes_fault placement axis low high best step ≡ Fine → InRange
+  pub planes_fine : (placement : Placement) (axis : ℕ) → planes_fault placement axis low high best step ≡ Ok tt → InRange
   planes_fine placement axis h =
       let a = both_fine (origin_fault placement) (lent_fault placement and_then axis_fault axis and_then plane_range_fault low high best step) h in
       let b = both_fine (lent_fault placement) (axis_fault axis and_then plane_range_fault low high best step) a.1 in

@@ -1,25 +1,23 @@
 -- 01, List, classes, planes, boxes: the range of the planes of one axis, and their d. Definitions only.
-use Rattle.std.specs.Prelude.{Bool, cond, false, ◌||◌, List, [], ◌∷◌, ℕ, zero, suc, ◌+◌, ◌-◌, ltb, leb, negsuc, Float}
+use Rattle.std.specs.Prelude.{Bool, cond, false, ◌||◌, List, [], ◌∷◌, ℕ, zero, suc, ◌+◌, ◌-◌, ltb, leb, negsuc, Float, Ok}
 use Rattle.std.specs.Float.{fin}
 use Rattle.std.specs.Float.Ieee.{neg}
-use Rattle.grid.specs.declared.Checked.{Checked}
-use Rattle.grid.specs.declared.Checked.TheVariants.{Fine}
 use Rattle.grid.specs.declared.Placement.{Placement}
-use Rattle.grid.specs.Answers.{fault_if, ◌and_then◌}
-use Rattle.grid.specs.Refusals.{OUT_OF_RANGE}
+use Rattle.grid.specs.Answers.{fault_if, ◌and_then◌, Checked}
 use Rattle.marking_mesh.specs.Mesh.{off_centre}
 use Rattle.marking_mesh.specs.Faults.{origin_fault, lent_fault}
+use Rattle.grid.specs.declared.Reason.TheVariants.{OutOfRange}
 
 -- "12: a cell, axis, plane index or step outside its range"
 abbrev pub axis_fault : ℕ → Checked
-axis_fault axis = fault_if (ltb 2 axis) OUT_OF_RANGE 0 Fine
+axis_fault axis = fault_if (ltb 2 axis) OutOfRange 0 (Ok tt)
 
 -- "Low, high and best under 256, low <= high, step at most 256, else 12."
 abbrev pub out_of_range : ℕ → ℕ → ℕ → ℕ → Bool
 out_of_range low high best step = (((leb 256 low || leb 256 high) || leb 256 best) || ltb high low) || ltb 256 step
 
 abbrev pub plane_range_fault : ℕ → ℕ → ℕ → ℕ → Checked
-plane_range_fault low high best step = fault_if (out_of_range low high best step) OUT_OF_RANGE 0 Fine
+plane_range_fault low high best step = fault_if (out_of_range low high best step) OutOfRange 0 (Ok tt)
 
 -- "from max(low, best - step, 0) to min(high, best + step), both ends included". A difference of whole numbers is 0 where it would be below 0
 abbrev pub first_plane : ℕ → ℕ → ℕ → ℕ

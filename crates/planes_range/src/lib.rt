@@ -6,16 +6,16 @@ ghost use Rattle.std.specs.Float.{nan};
 ghost use Rattle.order.specs.Output.{Written};
 ghost use Rattle.planes_range.specs.PlaneRange.{axis_fault, out_of_range, plane_range_fault, first_plane, past_plane, plane_at, planes_of, planes_fault};
 
-use grid::{Checked, Placement};
+use grid::{Placement, Reason, Refusal};
 
 // Refusal 12 of an axis.
-pub fn axis_fault(axis: usize) -> Checked
+pub fn axis_fault(axis: usize) -> Result<(), Refusal>
     ensures { result ≡ axis_fault axis }
 {
     if 2 < axis {
-        return grid::fault(grid::OUT_OF_RANGE, 0);
+        return Err(Reason::OutOfRange.at(0));
     }
-    Checked::Fine
+    Ok(())
 }
 
 fn out_of_range(low: usize, high: usize, best: usize, step: usize) -> bool
@@ -26,26 +26,20 @@ fn out_of_range(low: usize, high: usize, best: usize, step: usize) -> bool
 }
 
 // Refusal 12 of plane indices and a step.
-fn range_fault(low: usize, high: usize, best: usize, step: usize) -> Checked
+fn range_fault(low: usize, high: usize, best: usize, step: usize) -> Result<(), Refusal>
     ensures { result ≡ plane_range_fault low high best step }
 {
     if out_of_range(low, high, best, step) {
-        return grid::fault(grid::OUT_OF_RANGE, 0);
+        return Err(Reason::OutOfRange.at(0));
     }
-    Checked::Fine
+    Ok(())
 }
 
 // max(low, best - step, 0).
 pub fn first_plane(low: usize, best: usize, step: usize) -> usize
     ensures { result ≡ first_plane low best step }
 {
-    if best <= step {
-        return low;
-    }
-    if low < best - step {
-        return best - step;
-    }
-    low
+    best.saturating_sub(step).max(low)
 }
 
 // One past min(high, best + step).
@@ -53,10 +47,7 @@ pub fn past_plane(high: usize, best: usize, step: usize) -> usize
     requires { (high < 256) × (best < 256) × (step ≤ 256) }
     ensures { result ≡ past_plane high best step }
 {
-    if best + step < high {
-        return best + step + 1;
-    }
-    high + 1
+    (best + step).min(high) + 1
 }
 
 fn plane_at(origin: f32, scale: f32, i: usize) -> f32
@@ -71,11 +62,8 @@ pub fn write_planes(ds: &mut [f32], origin: f32, scale: f32, first: usize, count
     requires { (first + count ≤ 256) × (count ≤ length ds.old) }
     ensures { Written nan 0 (planes_of origin scale first count) ds.old ds.new }
 {
-    let mut n = 0usize;
-    while n < count {
-        let d = plane_at(origin, scale, first + n);
-        ds[n] = d;
-        n += 1;
+    for n in 0..count {
+        ds[n] = plane_at(origin, scale, first + n);
     }
 }
 
@@ -87,14 +75,11 @@ pub fn planes_fault(
     high: usize,
     best: usize,
     step: usize,
-) -> Checked
+) -> Result<(), Refusal>
     ensures { result ≡ planes_fault placement axis low high best step }
 {
-    let numbers = marking_checks::origin_fault(placement);
-    let lent = marking_checks::lent_fault(placement);
-    let of_axis = axis_fault(axis);
-    let of_range = range_fault(low, high, best, step);
-    let from_12 = grid::and_then(of_axis, of_range);
-    let from_5 = grid::and_then(lent, from_12);
-    grid::and_then(numbers, from_5)
+    marking_checks::origin_fault(placement)?;
+    marking_checks::lent_fault(placement)?;
+    axis_fault(axis)?;
+    range_fault(low, high, best, step)
 }

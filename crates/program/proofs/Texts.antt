@@ -1,10 +1,12 @@
 -- How long a text is at most, and a text in a buffer. Assumes nothing.
+use Rattle.std.specs.Prelude.{Ok, Err}
 use mathlib.Core.List.{List, [], ◌∷◌, ◌++◌}
 use mathlib.Core.Path.{◌≡◌, ap, ◌∙◌}
 use Prim.Native.Nat.{ℕ, ◌≤◌}
 use native.Mathlib.Omega.{arith}
 use lib.ListN.{length, take, length-append}
-use Rattle.grid.specs.Answers.{Outcome, answers, refuses}
+use Rattle.grid.specs.Refusals.{number_of}
+use Rattle.grid.specs.Answers.{Outcome}
 use Rattle.order.proofs.Outputs.{front_written, written_over}
 use Rattle.order.specs.Output.{over}
 use Rattle.program_text.specs.Text.{line, PutText}
@@ -13,8 +15,8 @@ use Rattle.program_summary.specs.declared.Summary.{Summary}
 use Rattle.program.specs.Program.{cells_word, outside_word, inside_word, surface_word, left_word, scans_word, refused_word, text}
 
 pub text_most : (o : Outcome Summary) → length (text o) ≤ 256
-text_most (refuses n place) = omega (arith, line_most refused_word (n ∷ []))
-text_most (answers n) =
+text_most (Err f) = omega (arith, line_most refused_word (number_of f.reason ∷ []))
+text_most (Ok n) =
     six (line cells_word (n.axes.r0 ∷ n.axes.r1 ∷ n.axes.r2 ∷ [])) (line outside_word (n.outside ∷ [])) (line inside_word (n.inside ∷ [])) (line surface_word (n.surface ∷ [])) (line left_word (n.left ∷ [])) (line scans_word (n.scans ∷ []))
     (line_most cells_word (n.axes.r0 ∷ n.axes.r1 ∷ n.axes.r2 ∷ []))
     (line_most outside_word (n.outside ∷ [])) (line_most inside_word (n.inside ∷ [])) (line_most surface_word (n.surface ∷ [])) (line_most left_word (n.left ∷ [])) (line_most scans_word (n.scans ∷ []))

@@ -1,17 +1,11 @@
 -- 01, Program records and Sample maps: the program's text, and the whole run. Definitions only.
-use Rattle.std.specs.Prelude.{List, [], ◌∷◌, ◌++◌, ◌≡◌, ℕ, length}
-use Rattle.grid.specs.Answers.{Outcome, answers, refuses, unless, lent_after}
+use Rattle.std.specs.Prelude.{List, [], ◌∷◌, ◌++◌, ◌≡◌, ℕ, length, Ok, Err}
+use Rattle.grid.specs.Refusals.{number_of}
+use Rattle.grid.specs.Answers.{Outcome, lent_after, ◌and_then◌}
 use Rattle.order.specs.Output.{room_fault, over}
 use Rattle.program_text.specs.Text.{line}
 use Rattle.program_summary.specs.declared.Summary.{Summary}
 use Rattle.program_summary.specs.Summary.{Summarizes}
-use Rattle.program.specs.declared.Writing.{Writing}
-use Rattle.program.specs.declared.Writing.TheVariants.{Wrote, Refused}
-
--- 01's number and values for each case of `Writing`
-abbrev pub outcome : Writing → Outcome ℕ
-outcome (Wrote n) = answers n
-outcome (Refused f) = refuses f.number f.place
 
 -- ---- the text: the words are ASCII
 
@@ -48,13 +42,13 @@ six_lines n =
 
 -- "A refusal prints one line, `refused ` and its number, and nothing else"
 abbrev pub text : Outcome Summary → List ℕ
-text (answers n) = six_lines n
-text (refuses n place) = line refused_word (n ∷ [])
+text (Ok n) = six_lines n
+text (Err f) = line refused_word (number_of f.reason ∷ [])
 
 -- ---- a text in a lent output: how many bytes, or 14, and the output after it
 
 abbrev pub copy_answer : List ℕ → List ℕ → Outcome ℕ
-copy_answer xs out = unless (room_fault (length out) (length xs)) (answers (length xs))
+copy_answer xs out = room_fault (length out) (length xs) and_then Ok (length xs)
 
 abbrev pub copy_buffer : List ℕ → List ℕ → List ℕ
 copy_buffer xs out = lent_after (room_fault (length out) (length xs)) out (over xs out)

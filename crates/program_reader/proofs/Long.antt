@@ -1,4 +1,8 @@
 -- What is read of the first 7,190 bytes of an input, or more of them, is what is read of the whole (`read_long`): so a program need not take in more. Assumes nothing.
+use Rattle.std.specs.Prelude.{Option, Some, None, Ok}
+use mathlib.Core.Bool.{true, false}
+use Rattle.program_reader.specs.declared.Kind.{Kind}
+use Rattle.grid.specs.declared.Reason.TheVariants.{BadCount, BadRecord}
 use mathlib.Core.Bool.{Bool, cond}
 use mathlib.Core.List.{List, ◌++◌}
 use mathlib.Core.Path.{◌≡◌, refl, sym, ap, ◌∙◌}
@@ -10,14 +14,9 @@ use lib.ListN.{length, get_or, length-append, get_or-append}
 use borrow.Author.Tests.{lt-ltb, le-ltb}
 use Rattle.grid.specs.Answers.{Outcome}
 use Rattle.program_words.specs.Words.{word_at}
-use Rattle.program_reader.specs.declared.Bytes.{Bytes}
-use Rattle.program_reader.specs.declared.Bytes.TheVariants.{There, Cut}
 use Rattle.program_reader.specs.declared.Head.{Head}
 use Rattle.program_reader.specs.declared.Taken.{Taken}
-use Rattle.program_reader.specs.declared.Kind.TheVariants as Kind
-use Rattle.program_reader.specs.declared.Mark.{Mark}
 use Rattle.program_reader.specs.declared.InputRecord.TheVariants as InputRecord
-use Rattle.program_reader.specs.declared.Step.{Step}
 use Rattle.program_reader.specs.Records.{bytes_at, mark_of_bytes, mark_at, head_of, head_by, start_by, start_with, start_at, refused, whole, point_from, corners_from, step_by, step_at}
 use Rattle.program_reader.specs.Reading.{Stream, taken_so_far, coordinates_of, corners_of, Reads, Read}
 use Rattle.program_reader.proofs.Readings.{point_taken, triangle_taken}
@@ -38,7 +37,7 @@ module _ (s t : List ℕ) where
   -- n bytes are there in both
   bytes : (at n : ℕ) → at + n ≤ length s → bytes_at (s ++ t) at n ≡ bytes_at s at n
   bytes at n h =
-      ap (λ (b : Bool). cond b Cut There) (le-ltb (length (s ++ t) - at) n (omega (arith, length-append s t)) ∙ sym (le-ltb (length s - at) n (omega arith)))
+      ap (λ (b : Bool). cond b false true) (le-ltb (length (s ++ t) - at) n (omega (arith, length-append s t)) ∙ sym (le-ltb (length s - at) n (omega arith)))
 
   -- the first step is the same
   start_long : 8 ≤ length s → start_at (s ++ t) ≡ start_at s
@@ -49,20 +48,20 @@ module _ (s t : List ℕ) where
       fields : head_of (get_or (s ++ t) 2 0) (get_or (s ++ t) 3 0) (word_at (s ++ t) 4) ≡ head_of (get_or s 2 0) (get_or s 3 0) (word_at s 4)
       fields i = head_of (byte 2 (omega arith) i) (byte 3 (omega arith) i) (word 4 (omega arith) i)
 
-      by_head : (b : Bytes) → head_by b (s ++ t) ≡ head_by b s
-      by_head There = fields
-      by_head Cut = refl
+      by_head : (b : Bool) → head_by b (s ++ t) ≡ head_by b s
+      by_head true = fields
+      by_head false = refl
 
-      by_mark : (m : Mark) → start_by m (s ++ t) ≡ start_by m s
-      by_mark (Mark.Of Kind.Head) = (λ i. head_by (bytes 0 8 (omega arith) i) (s ++ t)) ∙ by_head (bytes_at s 0 8)
-      by_mark (Mark.Of Kind.Point) = refl
-      by_mark (Mark.Of Kind.Triangle) = refl
-      by_mark (Mark.Of Kind.End) = refl
-      by_mark Mark.Unknown = refl
+      by_mark : (m : Option Kind) → start_by m (s ++ t) ≡ start_by m s
+      by_mark (Some Kind.Head) = (λ i. head_by (bytes 0 8 (omega arith) i) (s ++ t)) ∙ by_head (bytes_at s 0 8)
+      by_mark (Some Kind.Point) = refl
+      by_mark (Some Kind.Triangle) = refl
+      by_mark (Some Kind.End) = refl
+      by_mark None = refl
 
-      by_bytes : (b : Bytes) → start_with b (s ++ t) ≡ start_with b s
-      by_bytes There = (λ i. start_by (mark 0 (omega arith) i) (s ++ t)) ∙ by_mark (mark_at s 0)
-      by_bytes Cut = refl
+      by_bytes : (b : Bool) → start_with b (s ++ t) ≡ start_with b s
+      by_bytes true = (λ i. start_by (mark 0 (omega arith) i) (s ++ t)) ∙ by_mark (mark_at s 0)
+      by_bytes false = refl
 
   -- and so is each later one that lies 14 bytes before the end
   step_long : (at : ℕ) (n : Taken) → at + 14 ≤ length s → step_at (s ++ t) at n ≡ step_at s at n
@@ -81,13 +80,13 @@ module _ (s t : List ℕ) where
       more : ltb 2 (length (s ++ t) - at) ≡ ltb 2 (length s - at)
       more = lt-ltb 2 (length (s ++ t) - at) (omega (arith, length-append s t)) ∙ sym (lt-ltb 2 (length s - at) (omega arith))
 
-      by_mark : (m : Mark) → step_by m (s ++ t) at n ≡ step_by m s at n
-      by_mark (Mark.Of Kind.Head) = refl
-      by_mark (Mark.Of Kind.Point) = λ i.
-          cond (leb 256 n.points) (refused 1 0) (cond (ltb 0 n.triangles) (refused 16 at) (whole (bytes at 14 h i) at (Step.Took (InputRecord.Point (one_point i)))))
-      by_mark (Mark.Of Kind.Triangle) = λ i. cond (leb 256 n.triangles) (refused 1 0) (whole (bytes at 14 h i) at (Step.Took (InputRecord.Triangle (one_triangle i))))
-      by_mark (Mark.Of Kind.End) = λ i. cond (more i) (refused 16 (at + 2)) (Step.Took InputRecord.End)
-      by_mark Mark.Unknown = refl
+      by_mark : (m : Option Kind) → step_by m (s ++ t) at n ≡ step_by m s at n
+      by_mark (Some Kind.Head) = refl
+      by_mark (Some Kind.Point) = λ i.
+          cond (leb 256 n.points) (refused BadCount 0) (cond (ltb 0 n.triangles) (refused BadRecord at) (whole (bytes at 14 h i) at (Ok (InputRecord.Point (one_point i)))))
+      by_mark (Some Kind.Triangle) = λ i. cond (leb 256 n.triangles) (refused BadCount 0) (whole (bytes at 14 h i) at (Ok (InputRecord.Triangle (one_triangle i))))
+      by_mark (Some Kind.End) = λ i. cond (more i) (refused BadRecord (at + 2)) (Ok InputRecord.End)
+      by_mark None = refl
 
   -- p points and q triangles were read up to here
   record Stands (at : ℕ) (ps : List Float) (ts : List ℕ) (p q : ℕ) : Type 0 where

@@ -1,4 +1,6 @@
 -- The loop over the records: what was read so far, and one record more. And that an input has one reading. Assumes nothing.
+use Rattle.std.specs.Prelude.{Option, Some, None, Ok, Err}
+use Rattle.program_reader.specs.declared.Kind.{Kind}
 use mathlib.Core.Bool.{Bool, true, false, cond}
 use mathlib.Core.List.{List, [], ◌∷◌, ◌++◌}
 use mathlib.Core.Path.{◌≡◌, refl, sym, ap, ◌∙◌, subst}
@@ -14,61 +16,56 @@ use Rattle.grid.specs.Answers.{Outcome}
 use Rattle.sizing.specs.declared.Point.{Point}
 use Rattle.order.specs.Output.{Written}
 use Rattle.order.proofs.Outputs.{front_written}
-use Rattle.program_reader.specs.declared.Bytes.{Bytes}
-use Rattle.program_reader.specs.declared.Bytes.TheVariants.{There, Cut}
 use Rattle.program_reader.specs.declared.Head.{Head}
 use Rattle.program_reader.specs.declared.Corners.{Corners}
 use Rattle.program_reader.specs.declared.Taken.{Taken}
-use Rattle.program_reader.specs.declared.Kind.TheVariants as Kind
-use Rattle.program_reader.specs.declared.Mark.{Mark}
 use Rattle.program_reader.specs.declared.InputRecord.{InputRecord}
-use Rattle.program_reader.specs.declared.Step.{Step}
 use Rattle.program_reader.specs.Records.{bytes_at, mark_at, whole, corners_from, triangle_step, step_by, step_at}
 use Rattle.program_reader.specs.Reading.{Stream, taken_so_far, coordinates_of, corners_of, Reads}
 use Rattle.program_reader.proofs.Laws.{there}
 
 -- ---- what a record that was taken shows
 
-pub from_whole : (b : Bytes) (at : ℕ) (x : Step) (r : InputRecord) → Step.Took r ≡ whole b at x → (There ≡ b) × (Step.Took r ≡ x)
-from_whole There at x r h = (refl, h)
-from_whole Cut at x r h = absurd (let z : ◌≡◌ {A = ℕ} 0 1 = cc in omega arith)
+pub from_whole : (b : Bool) (at : ℕ) (x : Outcome InputRecord) (r : InputRecord) → Ok r ≡ whole b at x → (true ≡ b) × (Ok r ≡ x)
+from_whole true at x r h = (refl, h)
+from_whole false at x r h = absurd (let z : ◌≡◌ {A = ℕ} 0 1 = cc in omega arith)
 
-pub from_cond : (t : Bool) (f : Refusal) (x : Step) (r : InputRecord) → Step.Took r ≡ cond t (Step.Refused f) x → (t ≡ false) × (Step.Took r ≡ x)
+pub from_cond : (t : Bool) (f : Refusal) (x : Outcome InputRecord) (r : InputRecord) → Ok r ≡ cond t (Err f) x → (t ≡ false) × (Ok r ≡ x)
 from_cond false f x r h = (refl, h)
 from_cond true f x r h = absurd (let z : ◌≡◌ {A = ℕ} 0 1 = cc in omega arith)
 
 module _ (s : List ℕ) (at : ℕ) (n : Taken) where
-  from_triangle : (r : InputRecord) → Step.Took r ≡ triangle_step s at n → (n.triangles < 256) × (14 ≤ length s - at) × ((t : Corners) × (r ≡ InputRecord.Triangle t))
+  from_triangle : (r : InputRecord) → Ok r ≡ triangle_step s at n → (n.triangles < 256) × (14 ≤ length s - at) × ((t : Corners) × (r ≡ InputRecord.Triangle t))
   from_triangle r h =
       let a = from_cond (leb 256 n.triangles) _ _ r h in
       let b = from_whole (bytes_at s at 14) at _ r a.1 in
       (leb-false 256 n.triangles a.0, there s at 14 b.0, (corners_from s (at + 2), cc))
 
-  pub point_taken : (p : Point) → Step.Took (InputRecord.Point p) ≡ step_at s at n → (n.points < 256) × (14 ≤ length s - at)
+  pub point_taken : (p : Point) → Ok (InputRecord.Point p) ≡ step_at s at n → (n.points < 256) × (14 ≤ length s - at)
   point_taken p h = go (mark_at s at) (from_whole (bytes_at s at 2) at _ (InputRecord.Point p) h).1
     where
-      go : (m : Mark) → Step.Took (InputRecord.Point p) ≡ step_by m s at n → (n.points < 256) × (14 ≤ length s - at)
-      go (Mark.Of Kind.Head) e = absurd (let z : ◌≡◌ {A = ℕ} 0 1 = cc in omega arith)
-      go (Mark.Of Kind.Point) e =
+      go : (m : Option Kind) → Ok (InputRecord.Point p) ≡ step_by m s at n → (n.points < 256) × (14 ≤ length s - at)
+      go (Some Kind.Head) e = absurd (let z : ◌≡◌ {A = ℕ} 0 1 = cc in omega arith)
+      go (Some Kind.Point) e =
           let a = from_cond (leb 256 n.points) _ _ (InputRecord.Point p) e in
           let b = from_cond (ltb 0 n.triangles) _ _ (InputRecord.Point p) a.1 in
           (leb-false 256 n.points a.0, there s at 14 (from_whole (bytes_at s at 14) at _ (InputRecord.Point p) b.1).0)
-      go (Mark.Of Kind.Triangle) e = absurd (let w = (from_triangle (InputRecord.Point p) e).2.1 in let z : ◌≡◌ {A = ℕ} 0 1 = cc in omega arith)
-      go (Mark.Of Kind.End) e = absurd (let w = (from_cond (ltb 2 (length s - at)) _ _ (InputRecord.Point p) e).1 in let z : ◌≡◌ {A = ℕ} 0 1 = cc in omega arith)
-      go Mark.Unknown e = absurd (let z : ◌≡◌ {A = ℕ} 0 1 = cc in omega arith)
+      go (Some Kind.Triangle) e = absurd (let w = (from_triangle (InputRecord.Point p) e).2.1 in let z : ◌≡◌ {A = ℕ} 0 1 = cc in omega arith)
+      go (Some Kind.End) e = absurd (let w = (from_cond (ltb 2 (length s - at)) _ _ (InputRecord.Point p) e).1 in let z : ◌≡◌ {A = ℕ} 0 1 = cc in omega arith)
+      go None e = absurd (let z : ◌≡◌ {A = ℕ} 0 1 = cc in omega arith)
 
-  pub triangle_taken : (t : Corners) → Step.Took (InputRecord.Triangle t) ≡ step_at s at n → (n.triangles < 256) × (14 ≤ length s - at)
+  pub triangle_taken : (t : Corners) → Ok (InputRecord.Triangle t) ≡ step_at s at n → (n.triangles < 256) × (14 ≤ length s - at)
   triangle_taken t h = go (mark_at s at) (from_whole (bytes_at s at 2) at _ (InputRecord.Triangle t) h).1
     where
-      go : (m : Mark) → Step.Took (InputRecord.Triangle t) ≡ step_by m s at n → (n.triangles < 256) × (14 ≤ length s - at)
-      go (Mark.Of Kind.Head) e = absurd (let z : ◌≡◌ {A = ℕ} 0 1 = cc in omega arith)
-      go (Mark.Of Kind.Point) e =
+      go : (m : Option Kind) → Ok (InputRecord.Triangle t) ≡ step_by m s at n → (n.triangles < 256) × (14 ≤ length s - at)
+      go (Some Kind.Head) e = absurd (let z : ◌≡◌ {A = ℕ} 0 1 = cc in omega arith)
+      go (Some Kind.Point) e =
           let a = from_cond (leb 256 n.points) _ _ (InputRecord.Triangle t) e in
           let b = from_cond (ltb 0 n.triangles) _ _ (InputRecord.Triangle t) a.1 in
           absurd (let w = (from_whole (bytes_at s at 14) at _ (InputRecord.Triangle t) b.1).1 in let z : ◌≡◌ {A = ℕ} 0 1 = cc in omega arith)
-      go (Mark.Of Kind.Triangle) e = let w = from_triangle (InputRecord.Triangle t) e in (w.0, w.1)
-      go (Mark.Of Kind.End) e = absurd (let w = (from_cond (ltb 2 (length s - at)) _ _ (InputRecord.Triangle t) e).1 in let z : ◌≡◌ {A = ℕ} 0 1 = cc in omega arith)
-      go Mark.Unknown e = absurd (let z : ◌≡◌ {A = ℕ} 0 1 = cc in omega arith)
+      go (Some Kind.Triangle) e = let w = from_triangle (InputRecord.Triangle t) e in (w.0, w.1)
+      go (Some Kind.End) e = absurd (let w = (from_cond (ltb 2 (length s - at)) _ _ (InputRecord.Triangle t) e).1 in let z : ◌≡◌ {A = ℕ} 0 1 = cc in omega arith)
+      go None e = absurd (let z : ◌≡◌ {A = ℕ} 0 1 = cc in omega arith)
 
 -- ---- the loop
 
@@ -112,10 +109,10 @@ module _ (s : List ℕ) (h : Head) where
       triangles = held_count 0 t ts ts 0 0 0 w.triangles_in i;
     }
 
-    pub asked : (x : Step) → x ≡ step_at s at (record { points = p; triangles = t }) → step_at s at (taken_so_far (take (3 * p) ps) (take (3 * t) ts)) ≡ x
+    pub asked : (x : Outcome InputRecord) → x ≡ step_at s at (record { points = p; triangles = t }) → step_at s at (taken_so_far (take (3 * p) ps) (take (3 * t) ts)) ≡ x
     asked x e = ap (step_at s at) counts ∙ sym e
 
-    pub one_point : (x : Point) (qs : List Float) → Step.Took (InputRecord.Point x) ≡ step_at s at (record { points = p; triangles = t }) → Written nan (3 * p) (coordinates_of x) ps qs → SoFar s h qs ts (at + 14) (p + 1) t
+    pub one_point : (x : Point) (qs : List Float) → Ok (InputRecord.Point x) ≡ step_at s at (record { points = p; triangles = t }) → Written nan (3 * p) (coordinates_of x) ps qs → SoFar s h qs ts (at + 14) (p + 1) t
     one_point x qs e a =
         let k = point_taken s at (record { points = p; triangles = t }) x e in
         let m = held_more nan p ps qs x.x x.y x.z w.points_in k.0 a in
@@ -126,7 +123,7 @@ module _ (s : List ℕ) (h : Head) where
           rest = λ o r. w.rest o (Reads.point (asked _ e) (subst (λ (l : List Float). Reads s h (at + 14) l (take (3 * t) ts) o) m.1 r));
         }
 
-    pub one_triangle : (x : Corners) (us : List ℕ) → Step.Took (InputRecord.Triangle x) ≡ step_at s at (record { points = p; triangles = t }) → Written 0 (3 * t) (corners_of x) ts us → SoFar s h ps us (at + 14) p (t + 1)
+    pub one_triangle : (x : Corners) (us : List ℕ) → Ok (InputRecord.Triangle x) ≡ step_at s at (record { points = p; triangles = t }) → Written 0 (3 * t) (corners_of x) ts us → SoFar s h ps us (at + 14) p (t + 1)
     one_triangle x us e a =
         let k = triangle_taken s at (record { points = p; triangles = t }) x e in
         let m = held_more 0 t ts us x.a x.b x.c w.triangles_in k.0 a in

@@ -1,4 +1,9 @@
 -- The reader takes exactly the inputs that are a head, at most 256 points, at most 256 triangles and an end, with the numbers that stand in them (`read_whole`). Assumes nothing.
+use Rattle.std.specs.Prelude.{Option, Some, None, Err}
+use Rattle.program_reader.specs.declared.SizingWay.{SizingWay}
+use Rattle.fill.specs.declared.Mode.{Mode}
+use Rattle.grid.specs.declared.Reason.TheVariants.{BadCount, BadRecord}
+use Rattle.std.specs.Prelude.{Ok}
 use mathlib.Core.Bool.{Bool, true, false, cond}
 use mathlib.Core.List.{List, [], ◌∷◌, ◌++◌, append-nil, append_assoc}
 use mathlib.Core.Logic.{◌↔◌}
@@ -10,22 +15,15 @@ use lib.Ieee.{Float, binary32, of_bits}
 use lib.ListN.{length, get_or, take, drop, length-append, length-drop, take-append-drop, get_or-append}
 use lib.Seq.{drop-cons, drop-length, drop-drop, get_or-take, get_or-drop, length-take-le, take-append_seam, drop-append_seam}
 use borrow.Author.Tests.{eqb-true, le-ltb, lt-leb, ltb-false, leb-false}
-use Rattle.grid.specs.Answers.{Outcome, answers, refuses}
+use Rattle.grid.specs.Answers.{Outcome}
 use Rattle.sizing.specs.declared.Point.{Point}
 use Rattle.order.specs.Order.{join_all}
 use Rattle.program_words.specs.Words.{word_at}
-use Rattle.program_reader.specs.declared.Bytes.{Bytes}
-use Rattle.program_reader.specs.declared.Bytes.TheVariants.{There, Cut}
 use Rattle.program_reader.specs.declared.Head.{Head}
 use Rattle.program_reader.specs.declared.Corners.{Corners}
 use Rattle.program_reader.specs.declared.Taken.{Taken}
 use Rattle.program_reader.specs.declared.Kind.{Kind}
-use Rattle.program_reader.specs.declared.Mark.{Mark}
 use Rattle.program_reader.specs.declared.InputRecord.{InputRecord}
-use Rattle.program_reader.specs.declared.Step.{Step}
-use Rattle.program_reader.specs.declared.Modes.{Modes}
-use Rattle.program_reader.specs.declared.SizingWays.{SizingWays}
-use Rattle.program_reader.specs.declared.Start.TheVariants as Start
 use Rattle.program_reader.specs.Records.{bytes_at, sizing_way_of, mode_of, head_with, head_by, start_by, start_with, start_at, letter_of, mark_of_bytes, mark_at, refused, whole, point_from, corners_from, step_by, step_at}
 use Rattle.program_reader.specs.Reading.{Stream, taken_so_far, coordinates_of, corners_of, Reads, Read}
 use Rattle.program_reader.specs.Whole.{record_of, point_record, triangle_record, records_after_head, floats_in, words_in, Twelve, Complete}
@@ -41,32 +39,32 @@ letter Kind.Point = 112
 letter Kind.Triangle = 116
 letter Kind.End = 122
 
-mark_is : (a b : ℕ) (k : Kind) → Mark.Of k ≡ mark_of_bytes a b → (a ≡ 86) × (b ≡ letter k)
+mark_is : (a b : ℕ) (k : Kind) → Some k ≡ mark_of_bytes a b → (a ≡ 86) × (b ≡ letter k)
 mark_is a b k h = first (eqb a 86) refl h
   where
-    kind : (j : Kind) → b ≡ letter j → Mark.Of k ≡ Mark.Of j → b ≡ letter k
+    kind : (j : Kind) → b ≡ letter j → Some k ≡ Some j → b ≡ letter k
     kind j e g = let z : k ≡ j = cc in e ∙ ap letter (sym z)
 
-    fourth : (t : Bool) → eqb b 122 ≡ t → Mark.Of k ≡ cond t (Mark.Of Kind.End) Mark.Unknown → b ≡ letter k
+    fourth : (t : Bool) → eqb b 122 ≡ t → Some k ≡ cond t (Some Kind.End) None → b ≡ letter k
     fourth true e g = kind Kind.End (eqb-true b 122 e) g
     fourth false e g = absurd (let z : ◌≡◌ {A = ℕ} 0 1 = cc in omega arith)
 
-    third : (t : Bool) → eqb b 116 ≡ t → Mark.Of k ≡ cond t (Mark.Of Kind.Triangle) (cond (eqb b 122) (Mark.Of Kind.End) Mark.Unknown) → b ≡ letter k
+    third : (t : Bool) → eqb b 116 ≡ t → Some k ≡ cond t (Some Kind.Triangle) (cond (eqb b 122) (Some Kind.End) None) → b ≡ letter k
     third true e g = kind Kind.Triangle (eqb-true b 116 e) g
     third false e g = fourth (eqb b 122) refl g
 
     second : (t : Bool) → eqb b 112 ≡ t
-        → Mark.Of k ≡ cond t (Mark.Of Kind.Point) (cond (eqb b 116) (Mark.Of Kind.Triangle) (cond (eqb b 122) (Mark.Of Kind.End) Mark.Unknown)) → b ≡ letter k
+        → Some k ≡ cond t (Some Kind.Point) (cond (eqb b 116) (Some Kind.Triangle) (cond (eqb b 122) (Some Kind.End) None)) → b ≡ letter k
     second true e g = kind Kind.Point (eqb-true b 112 e) g
     second false e g = third (eqb b 116) refl g
 
     one : (t : Bool) → eqb b 104 ≡ t
-        → Mark.Of k ≡ cond t (Mark.Of Kind.Head) (cond (eqb b 112) (Mark.Of Kind.Point) (cond (eqb b 116) (Mark.Of Kind.Triangle) (cond (eqb b 122) (Mark.Of Kind.End) Mark.Unknown)))
+        → Some k ≡ cond t (Some Kind.Head) (cond (eqb b 112) (Some Kind.Point) (cond (eqb b 116) (Some Kind.Triangle) (cond (eqb b 122) (Some Kind.End) None)))
         → b ≡ letter k
     one true e g = kind Kind.Head (eqb-true b 104 e) g
     one false e g = second (eqb b 112) refl g
 
-    first : (t : Bool) → eqb a 86 ≡ t → Mark.Of k ≡ cond t (letter_of b) Mark.Unknown → (a ≡ 86) × (b ≡ letter k)
+    first : (t : Bool) → eqb a 86 ≡ t → Some k ≡ cond t (letter_of b) None → (a ≡ 86) × (b ≡ letter k)
     first true e g = (eqb-true a 86 e, one (eqb b 104) refl g)
     first false e g = absurd (let z : ◌≡◌ {A = ℕ} 0 1 = cc in omega arith)
 
@@ -160,25 +158,25 @@ fronts s at k b rest h l e = record {
 -- ---- what each step takes, and from what
 
 module _ (s : List ℕ) (at : ℕ) (n : Taken) where
-  marked : (k : Kind) → at + 2 ≤ length s → get_or s at 0 ≡ 86 → get_or s (at + 1) 0 ≡ letter k → (x : Step) → step_by (mark_of_bytes 86 (letter k)) s at n ≡ x → step_at s at n ≡ x
+  marked : (k : Kind) → at + 2 ≤ length s → get_or s at 0 ≡ 86 → get_or s (at + 1) 0 ≡ letter k → (x : Outcome InputRecord) → step_by (mark_of_bytes 86 (letter k)) s at n ≡ x → step_at s at n ≡ x
   marked k h a b x e =
       (λ i. whole (held i) at (step_by (mark_of_bytes (a i) (b i)) s at n)) ∙ e
     where
-      held : bytes_at s at 2 ≡ There
-      held = ap (λ (t : Bool). cond t Cut There) (le-ltb (length s - at) 2 (omega arith))
+      held : bytes_at s at 2 ≡ true
+      held = ap (λ (t : Bool). cond t false true) (le-ltb (length s - at) 2 (omega arith))
 
-  all_there : at + 14 ≤ length s → bytes_at s at 14 ≡ There
-  all_there h = ap (λ (t : Bool). cond t Cut There) (le-ltb (length s - at) 14 (omega arith))
+  all_there : at + 14 ≤ length s → bytes_at s at 14 ≡ true
+  all_there h = ap (λ (t : Bool). cond t false true) (le-ltb (length s - at) 14 (omega arith))
 
   takes_point : at + 14 ≤ length s → get_or s at 0 ≡ 86 → get_or s (at + 1) 0 ≡ 112 → n.points < 256 → n.triangles ≡ 0
-      → step_at s at n ≡ Step.Took (InputRecord.Point (point_from s (at + 2)))
-  takes_point h a b p q = marked Kind.Point (omega arith) a b _ (λ i. cond (lt-leb 256 n.points p i) (refused 1 0) (cond (le-ltb 0 n.triangles (omega (arith, q)) i) (refused 16 at) (whole (all_there h i) at (Step.Took (InputRecord.Point (point_from s (at + 2)))))))
+      → step_at s at n ≡ Ok (InputRecord.Point (point_from s (at + 2)))
+  takes_point h a b p q = marked Kind.Point (omega arith) a b _ (λ i. cond (lt-leb 256 n.points p i) (refused BadCount 0) (cond (le-ltb 0 n.triangles (omega (arith, q)) i) (refused BadRecord at) (whole (all_there h i) at (Ok (InputRecord.Point (point_from s (at + 2)))))))
 
-  takes_triangle : at + 14 ≤ length s → get_or s at 0 ≡ 86 → get_or s (at + 1) 0 ≡ 116 → n.triangles < 256 → step_at s at n ≡ Step.Took (InputRecord.Triangle (corners_from s (at + 2)))
-  takes_triangle h a b q = marked Kind.Triangle (omega arith) a b _ (λ i. cond (lt-leb 256 n.triangles q i) (refused 1 0) (whole (all_there h i) at (Step.Took (InputRecord.Triangle (corners_from s (at + 2))))))
+  takes_triangle : at + 14 ≤ length s → get_or s at 0 ≡ 86 → get_or s (at + 1) 0 ≡ 116 → n.triangles < 256 → step_at s at n ≡ Ok (InputRecord.Triangle (corners_from s (at + 2)))
+  takes_triangle h a b q = marked Kind.Triangle (omega arith) a b _ (λ i. cond (lt-leb 256 n.triangles q i) (refused BadCount 0) (whole (all_there h i) at (Ok (InputRecord.Triangle (corners_from s (at + 2))))))
 
-  takes_end : length s ≡ at + 2 → get_or s at 0 ≡ 86 → get_or s (at + 1) 0 ≡ 122 → step_at s at n ≡ Step.Took InputRecord.End
-  takes_end h a b = marked Kind.End (omega (arith, h)) a b _ (ap (λ (t : Bool). cond t (refused 16 (at + 2)) (Step.Took InputRecord.End)) (le-ltb 2 (length s - at) (omega (arith, h))))
+  takes_end : length s ≡ at + 2 → get_or s at 0 ≡ 86 → get_or s (at + 1) 0 ≡ 122 → step_at s at n ≡ Ok InputRecord.End
+  takes_end h a b = marked Kind.End (omega (arith, h)) a b _ (ap (λ (t : Bool). cond t (refused BadRecord (at + 2)) (Ok InputRecord.End)) (le-ltb 2 (length s - at) (omega (arith, h))))
 
   -- a record that was taken: its mark, and what else was asked
   abbrev Asked : InputRecord → Type 0
@@ -187,36 +185,36 @@ module _ (s : List ℕ) (at : ℕ) (n : Taken) where
   Asked (InputRecord.Triangle t) = (get_or s at 0 ≡ 86) × (get_or s (at + 1) 0 ≡ 116) × (at + 14 ≤ length s) × (n.triangles < 256) × (t ≡ corners_from s (at + 2))
   Asked InputRecord.End = (get_or s at 0 ≡ 86) × (get_or s (at + 1) 0 ≡ 122) × (length s ≡ at + 2)
 
-  asked : at ≤ length s → (r : InputRecord) → step_at s at n ≡ Step.Took r → Asked r
+  asked : at ≤ length s → (r : InputRecord) → step_at s at n ≡ Ok r → Asked r
   asked l r e = go (mark_at s at) refl w.1
     where
-      w : (There ≡ bytes_at s at 2) × (Step.Took r ≡ step_by (mark_at s at) s at n)
+      w : (true ≡ bytes_at s at 2) × (Ok r ≡ step_by (mark_at s at) s at n)
       w = from_whole (bytes_at s at 2) at (step_by (mark_at s at) s at n) r (sym e)
 
       here : 2 ≤ length s - at
       here = there s at 2 w.0
 
-      go : (m : Mark) → m ≡ mark_at s at → Step.Took r ≡ step_by m s at n → Asked r
-      go (Mark.Of Kind.Head) g k = absurd (let z : ◌≡◌ {A = ℕ} 0 1 = cc in omega arith)
-      go (Mark.Of Kind.Point) g k =
+      go : (m : Option Kind) → m ≡ mark_at s at → Ok r ≡ step_by m s at n → Asked r
+      go (Some Kind.Head) g k = absurd (let z : ◌≡◌ {A = ℕ} 0 1 = cc in omega arith)
+      go (Some Kind.Point) g k =
           let a = from_cond (leb 256 n.points) _ _ r k in
           let b = from_cond (ltb 0 n.triangles) _ _ r a.1 in
-          let d = from_whole (bytes_at s at 14) at (Step.Took (InputRecord.Point (point_from s (at + 2)))) r b.1 in
+          let d = from_whole (bytes_at s at 14) at (Ok (InputRecord.Point (point_from s (at + 2)))) r b.1 in
           let v = mark_is (get_or s at 0) (get_or s (at + 1) 0) Kind.Point g in
           let z : r ≡ InputRecord.Point (point_from s (at + 2)) = cc in
           subst Asked (sym z) (v.0, v.1, omega (arith, there s at 14 d.0), leb-false 256 n.points a.0, omega (arith, ltb-false 0 n.triangles b.0), refl)
-      go (Mark.Of Kind.Triangle) g k =
+      go (Some Kind.Triangle) g k =
           let a = from_cond (leb 256 n.triangles) _ _ r k in
-          let d = from_whole (bytes_at s at 14) at (Step.Took (InputRecord.Triangle (corners_from s (at + 2)))) r a.1 in
+          let d = from_whole (bytes_at s at 14) at (Ok (InputRecord.Triangle (corners_from s (at + 2)))) r a.1 in
           let v = mark_is (get_or s at 0) (get_or s (at + 1) 0) Kind.Triangle g in
           let z : r ≡ InputRecord.Triangle (corners_from s (at + 2)) = cc in
           subst Asked (sym z) (v.0, v.1, omega (arith, there s at 14 d.0), leb-false 256 n.triangles a.0, refl)
-      go (Mark.Of Kind.End) g k =
+      go (Some Kind.End) g k =
           let a = from_cond (ltb 2 (length s - at)) _ _ r k in
           let v = mark_is (get_or s at 0) (get_or s (at + 1) 0) Kind.End g in
           let z : r ≡ InputRecord.End = cc in
           subst Asked (sym z) (v.0, v.1, omega (arith, here, ltb-false 2 (length s - at) a.0))
-      go Mark.Unknown g k = absurd (let z : ◌≡◌ {A = ℕ} 0 1 = cc in omega arith)
+      go None g k = absurd (let z : ◌≡◌ {A = ℕ} 0 1 = cc in omega arith)
 
 -- ---- the records after the head
 
@@ -241,20 +239,20 @@ record Rests (s : List ℕ) (at : ℕ) (ps : List Float) (ts : List ℕ) (p q : 
 
 -- the numbers of an answered stream
 abbrev points_of_record : Outcome Stream → List Float
-points_of_record (answers s) = s.points
-points_of_record (refuses n place) = []
+points_of_record (Ok s) = s.points
+points_of_record (Err f) = []
 
 abbrev head_in : Head → Outcome Stream → Head
-head_in h (answers s) = s.head
-head_in h (refuses n place) = h
+head_in h (Ok s) = s.head
+head_in h (Err f) = h
 
 abbrev triangles_of_record : Outcome Stream → List ℕ
-triangles_of_record (answers s) = s.triangles
-triangles_of_record (refuses n place) = []
+triangles_of_record (Ok s) = s.triangles
+triangles_of_record (Err f) = []
 
 module _ (s : List ℕ) (h : Head) where
   abbrev streamed : List Float → List ℕ → Outcome Stream
-  streamed ps ts = answers (record { head = h; points = ps; triangles = ts })
+  streamed ps ts = Ok (record { head = h; points = ps; triangles = ts })
 
   -- one more of each kind in front
   more_points : (b : List ℕ) (ps ts : List (List ℕ)) → point_record b ++ records_after_head ps ts ≡ records_after_head (b ∷ ps) ts
@@ -292,7 +290,7 @@ module _ (s : List ℕ) (h : Head) where
 
   -- a reading that ends in an answer goes over such records
   reads_rest : {at : ℕ} {ps : List Float} {ts : List ℕ} {o : Outcome Stream} (p q : ℕ) (st : Stream) → TakenTo s at ps ts p q → p ≤ 256 → q ≤ 256
-      → Reads s h at ps ts o → o ≡ answers st → Rests s at ps ts p q st.points st.triangles
+      → Reads s h at ps ts o → o ≡ Ok st → Rests s at ps ts p q st.points st.triangles
   reads_rest p q st w l m (Reads.faulty e) k = absurd (let z : ◌≡◌ {A = ℕ} 0 1 = cc in omega arith)
   reads_rest {at} {ps} {ts} p q st w l m (Reads.end e) k =
       let a = asked s at (taken_so_far ps ts) w.inside InputRecord.End e in
@@ -346,7 +344,7 @@ module _ (s : List ℕ) (h : Head) where
         in_order = λ z. refl;
       }
 
-  reads_head : {at : ℕ} {ps : List Float} {ts : List ℕ} {o : Outcome Stream} (st : Stream) → Reads s h at ps ts o → o ≡ answers st → st.head ≡ h
+  reads_head : {at : ℕ} {ps : List Float} {ts : List ℕ} {o : Outcome Stream} (st : Stream) → Reads s h at ps ts o → o ≡ Ok st → st.head ≡ h
   reads_head st (Reads.faulty e) k = absurd (let z : ◌≡◌ {A = ℕ} 0 1 = cc in omega arith)
   reads_head st (Reads.point e r) k = reads_head st r k
   reads_head st (Reads.triangle e r) k = reads_head st r k
@@ -395,45 +393,45 @@ record Heads (s : List ℕ) (h : Head) : Type 0 where
   held : 8 ≤ length s
   first : get_or s 0 0 ≡ 86
   second : get_or s 1 0 ≡ 104
-  way_is : sizing_way_of (get_or s 2 0) (word_at s 4) ≡ SizingWays.Known h.way
-  mode_is : mode_of (get_or s 3 0) ≡ Modes.Known h.mode
+  way_is : sizing_way_of (get_or s 2 0) (word_at s 4) ≡ Some h.way
+  mode_is : mode_of (get_or s 3 0) ≡ Some h.mode
 
-heads : (s : List ℕ) (h : Head) → start_at s ≡ Start.Took h → Heads s h
+heads : (s : List ℕ) (h : Head) → start_at s ≡ Ok h → Heads s h
 heads s h e = first_bytes (bytes_at s 0 2) e
   where
-    fields : (w : SizingWays) (m : Modes) → head_with w m ≡ Start.Took h → (w ≡ SizingWays.Known h.way) × (m ≡ Modes.Known h.mode)
-    fields (SizingWays.Known w) (Modes.Known m) k = let z : w ≡ h.way = cc in let y : m ≡ h.mode = cc in (ap SizingWays.Known z, ap Modes.Known y)
-    fields (SizingWays.Known w) Modes.Unknown k = absurd (let z : ◌≡◌ {A = ℕ} 0 1 = cc in omega arith)
-    fields SizingWays.Unknown m k = absurd (let z : ◌≡◌ {A = ℕ} 0 1 = cc in omega arith)
+    fields : (w : Option SizingWay) (m : Option Mode) → head_with w m ≡ Ok h → (w ≡ Some h.way) × (m ≡ Some h.mode)
+    fields (Some w) (Some m) k = let z : w ≡ h.way = cc in let y : m ≡ h.mode = cc in (ap Some z, ap Some y)
+    fields (Some w) None k = absurd (let z : ◌≡◌ {A = ℕ} 0 1 = cc in omega arith)
+    fields None m k = absurd (let z : ◌≡◌ {A = ℕ} 0 1 = cc in omega arith)
 
-    by_head : (b : Bytes) → b ≡ bytes_at s 0 8 → Mark.Of Kind.Head ≡ mark_at s 0 → head_by b s ≡ Start.Took h → Heads s h
-    by_head There g m k =
+    by_head : (b : Bool) → b ≡ bytes_at s 0 8 → Some Kind.Head ≡ mark_at s 0 → head_by b s ≡ Ok h → Heads s h
+    by_head true g m k =
         let v = mark_is (get_or s 0 0) (get_or s 1 0) Kind.Head m in
         let f = fields (sizing_way_of (get_or s 2 0) (word_at s 4)) (mode_of (get_or s 3 0)) k in
         record { held = omega (arith, there s 0 8 g); first = v.0; second = v.1; way_is = f.0; mode_is = f.1 }
-    by_head Cut g m k = absurd (let z : ◌≡◌ {A = ℕ} 0 1 = cc in omega arith)
+    by_head false g m k = absurd (let z : ◌≡◌ {A = ℕ} 0 1 = cc in omega arith)
 
-    by_mark : (m : Mark) → m ≡ mark_at s 0 → start_by m s ≡ Start.Took h → Heads s h
-    by_mark (Mark.Of Kind.Head) g k = by_head (bytes_at s 0 8) refl g k
-    by_mark (Mark.Of Kind.Point) g k = absurd (let z : ◌≡◌ {A = ℕ} 0 1 = cc in omega arith)
-    by_mark (Mark.Of Kind.Triangle) g k = absurd (let z : ◌≡◌ {A = ℕ} 0 1 = cc in omega arith)
-    by_mark (Mark.Of Kind.End) g k = absurd (let z : ◌≡◌ {A = ℕ} 0 1 = cc in omega arith)
-    by_mark Mark.Unknown g k = absurd (let z : ◌≡◌ {A = ℕ} 0 1 = cc in omega arith)
+    by_mark : (m : Option Kind) → m ≡ mark_at s 0 → start_by m s ≡ Ok h → Heads s h
+    by_mark (Some Kind.Head) g k = by_head (bytes_at s 0 8) refl g k
+    by_mark (Some Kind.Point) g k = absurd (let z : ◌≡◌ {A = ℕ} 0 1 = cc in omega arith)
+    by_mark (Some Kind.Triangle) g k = absurd (let z : ◌≡◌ {A = ℕ} 0 1 = cc in omega arith)
+    by_mark (Some Kind.End) g k = absurd (let z : ◌≡◌ {A = ℕ} 0 1 = cc in omega arith)
+    by_mark None g k = absurd (let z : ◌≡◌ {A = ℕ} 0 1 = cc in omega arith)
 
-    first_bytes : (b : Bytes) → start_with b s ≡ Start.Took h → Heads s h
-    first_bytes There k = by_mark (mark_at s 0) refl k
-    first_bytes Cut k = absurd (let z : ◌≡◌ {A = ℕ} 0 1 = cc in omega arith)
+    first_bytes : (b : Bool) → start_with b s ≡ Ok h → Heads s h
+    first_bytes true k = by_mark (mark_at s 0) refl k
+    first_bytes false k = absurd (let z : ◌≡◌ {A = ℕ} 0 1 = cc in omega arith)
 
 -- and a head that stands there is taken
-headed : (s : List ℕ) (h : Head) → Heads s h → start_at s ≡ Start.Took h
+headed : (s : List ℕ) (h : Head) → Heads s h → start_at s ≡ Ok h
 headed s h w =
     (λ i. start_with (all 2 (omega (arith, w.held)) i) s)
     ∙ (λ i. start_by (mark_of_bytes (w.first i) (w.second i)) s)
     ∙ (λ i. head_by (all 8 w.held i) s)
     ∙ (λ i. head_with (w.way_is i) (w.mode_is i))
   where
-    all : (n : ℕ) → n ≤ length s → bytes_at s 0 n ≡ There
-    all n l = ap (λ (t : Bool). cond t Cut There) (le-ltb (length s - 0) n (omega arith))
+    all : (n : ℕ) → n ≤ length s → bytes_at s 0 n ≡ true
+    all n l = ap (λ (t : Bool). cond t false true) (le-ltb (length s - 0) n (omega arith))
 
 -- the four bytes of the head's number
 abbrev four_of : List ℕ → List ℕ
@@ -473,13 +471,13 @@ module _ (input : List ℕ) (s : Stream) where
     triangles_long = v.triangles_long;
     points_few = omega (arith, v.points_few);
     triangles_few = omega (arith, v.triangles_few);
-    way_is = ap (sizing_way_of (get_or input 2 0)) (four_word input) ∙ w.way_is ∙ ap (λ (x : Head). SizingWays.Known x.way) (sym e);
-    mode_is = w.mode_is ∙ ap (λ (x : Head). Modes.Known x.mode) (sym e);
+    way_is = ap (sizing_way_of (get_or input 2 0)) (four_word input) ∙ w.way_is ∙ ap (λ (x : Head). Some x.way) (sym e);
+    mode_is = w.mode_is ∙ ap (λ (x : Head). Some x.mode) (sym e);
     points_are = v.points_are;
     triangles_are = v.triangles_are;
   }
 
-  from : (o : Outcome Stream) → Read input o → o ≡ answers s → Complete input s
+  from : (o : Outcome Stream) → Read input o → o ≡ Ok s → Complete input s
   from o (Read.no_head e) k = absurd (let z : ◌≡◌ {A = ℕ} 0 1 = cc in omega arith)
   from o (Read.headed {h = h} e r) k =
       let w = heads input h e in
@@ -512,14 +510,14 @@ module _ (input : List ℕ) (s : Stream) where
     after : drop 8 input ≡ rest
     after = ap (drop 8) c.is ∙ subst (λ (n : ℕ). drop n (c.four ++ rest) ≡ rest) c.four_long (drop-append_seam c.four rest)
 
-    back : Read input (answers s)
+    back : Read input (Ok s)
     back =
         Read.headed (headed input s.head head_there)
         (subst (λ (o : Outcome Stream). Reads input s.head 8 [] [] o)
-        (sym (λ i. answers (record { head = s.head; points = c.points_are i; triangles = c.triangles_are i })))
+        (sym (λ i. Ok (record { head = s.head; points = c.points_are i; triangles = c.triangles_are i })))
         (rest_reads input s.head 8 [] [] 0 0 c.points c.triangles (record { inside = head_there.held; points_taken = refl; triangles_taken = refl }) c.points_long c.triangles_long
         (omega (arith, c.points_few)) (omega (arith, c.triangles_few)) (λ z. absurd (let n : 0 < 0 = z in omega arith)) after))
 
 -- the reader answers a stream exactly if the input is complete, and then with its numbers
-pub read_whole : (input : List ℕ) (s : Stream) → Read input (answers s) ↔ Complete input s
-read_whole input s = ((λ r. from input s (answers s) r refl), back input s)
+pub read_whole : (input : List ℕ) (s : Stream) → Read input (Ok s) ↔ Complete input s
+read_whole input s = ((λ r. from input s (Ok s) r refl), back input s)

@@ -1,9 +1,8 @@
 -- 01, Program records: "One head, points, triangles, end." What a complete input is, as a whole; proofs/Wholes.antt says that the reader takes exactly these. Definitions only.
+use Rattle.std.specs.Prelude.{Some}
 use Rattle.std.specs.Prelude.{List, [], ◌∷◌, ◌++◌, ◌≡◌, ℕ, ◌≤◌, Float, length}
 use Rattle.order.specs.Order.{join_all}
 use Rattle.program_words.specs.Words.{word_at, float_at}
-use Rattle.program_reader.specs.declared.Modes.TheVariants as Modes
-use Rattle.program_reader.specs.declared.SizingWays.TheVariants as SizingWays
 use Rattle.program_reader.specs.Records.{sizing_way_of, mode_of}
 use Rattle.program_reader.specs.Reading.{Stream}
 
@@ -44,7 +43,7 @@ pub record Complete (input : List ℕ) (s : Stream) : Type 0 where
   pub triangles_long : Twelve triangles
   pub points_few : length points ≤ 256
   pub triangles_few : length triangles ≤ 256
-  pub way_is : sizing_way_of way (word_at four 0) ≡ SizingWays.Known s.head.way
-  pub mode_is : mode_of mode ≡ Modes.Known s.head.mode
+  pub way_is : sizing_way_of way (word_at four 0) ≡ Some s.head.way
+  pub mode_is : mode_of mode ≡ Some s.head.mode
   pub points_are : s.points ≡ join_all floats_in points
   pub triangles_are : s.triangles ≡ join_all words_in triangles

@@ -6,10 +6,10 @@ ghost use Rattle.std.specs.Prelude.{◌≡◌, ◌+◌, ◌≤◌, length, [], �
 ghost use Rattle.std.specs.Float.{nan};
 ghost use Rattle.order.specs.Output.{Written};
 ghost use Rattle.program_reader.specs.Records.{bytes_at, mark_of_bytes, mark_at, sizing_way_of, mode_of, refused_start, head_of, head_by, start_at, refused, point_from, corners_from, point_step, triangle_step, end_step, step_at};
-ghost use Rattle.program_reader.specs.Reading.{outcome, Few, Reads, Read};
+ghost use Rattle.program_reader.specs.Reading.{stream_in, Few, Reads, Read};
 
 use fill::Mode;
-use grid::Refusal;
+use grid::{Reason, Refusal};
 use sizing::Point;
 
 // How many bytes a mark has, and with it the head, and a point or a triangle.
@@ -23,7 +23,7 @@ const TRIPLE: usize = 14;
 const MOST: usize = 256;
 
 // The kinds of record, by their marks `Vh`, `Vp`, `Vt` and `Vz`.
-#[derive(Clone, Copy)]
+#[derive(Clone, Copy, Debug, PartialEq)]
 pub enum Kind {
     Head,
     Point,
@@ -31,121 +31,70 @@ pub enum Kind {
     End,
 }
 
-#[derive(Clone, Copy)]
-pub enum Mark {
-    Of(Kind),
-    Unknown,
-}
-
-// Whether bytes that are asked for stand in the input.
-#[derive(Clone, Copy)]
-pub enum Bytes {
-    There,
-    Cut,
-}
-
-#[derive(Clone, Copy)]
+#[derive(Clone, Copy, Debug, PartialEq)]
 pub enum SizingWay {
     Size(f32),
     Resolution(u32),
 }
 
-#[derive(Clone, Copy)]
-pub enum SizingWays {
-    Known(SizingWay),
-    Unknown,
-}
-
-#[derive(Clone, Copy)]
-pub enum Modes {
-    Known(Mode),
-    Unknown,
-}
-
-#[derive(Clone, Copy)]
+#[derive(Clone, Copy, Debug, PartialEq)]
 pub struct Head {
     pub way: SizingWay,
     pub mode: Mode,
 }
 
 // The numbers of three points.
-#[derive(Clone, Copy)]
+#[derive(Clone, Copy, Debug, PartialEq)]
 pub struct Corners {
     pub a: u32,
     pub b: u32,
     pub c: u32,
 }
 
-// What the first step answers.
-#[derive(Clone, Copy)]
-pub enum Start {
-    Took(Head),
-    Refused(Refusal),
-}
-
-#[derive(Clone, Copy)]
+#[derive(Clone, Copy, Debug, PartialEq)]
 pub enum InputRecord {
     Point(Point),
     Triangle(Corners),
     End,
 }
 
-// What every later step answers.
-#[derive(Clone, Copy)]
-pub enum Step {
-    Took(InputRecord),
-    Refused(Refusal),
-}
-
 // How many points and triangles were taken.
-#[derive(Clone, Copy)]
+#[derive(Clone, Copy, Debug, PartialEq)]
 pub struct Taken {
     pub points: usize,
     pub triangles: usize,
 }
 
-// What the reader answers; the points and triangles are in its buffers.
-#[derive(Clone, Copy)]
-pub enum Reading {
-    Complete(Head, Taken),
-    Refused(Refusal),
+// What was read: the head, and how many points and triangles stand in the buffers.
+#[derive(Clone, Copy, Debug, PartialEq)]
+pub struct Reading {
+    pub head: Head,
+    pub taken: Taken,
 }
 
 // ---- marks and fields
 
 // Whether n bytes stand in the input from `at` on.
-fn bytes_at(input: &[u8], at: usize, n: usize) -> Bytes
+fn bytes_at(input: &[u8], at: usize, n: usize) -> bool
     requires { at ≤ length input.now }
     ensures { result ≡ bytes_at input.now at n }
 {
-    if input.len() - at < n {
-        return Bytes::Cut;
-    }
-    Bytes::There
+    n <= input.len() - at
 }
 
-fn mark_of(a: u8, b: u8) -> Mark
+fn mark_of(a: u8, b: u8) -> Option<Kind>
     ensures { result ≡ mark_of_bytes a b }
 {
-    if a != b'V' {
-        return Mark::Unknown;
+    match (a, b) {
+        (b'V', b'h') => Some(Kind::Head),
+        (b'V', b'p') => Some(Kind::Point),
+        (b'V', b't') => Some(Kind::Triangle),
+        (b'V', b'z') => Some(Kind::End),
+        _ => None,
     }
-    if b == b'h' {
-        return Mark::Of(Kind::Head);
-    }
-    if b == b'p' {
-        return Mark::Of(Kind::Point);
-    }
-    if b == b't' {
-        return Mark::Of(Kind::Triangle);
-    }
-    if b == b'z' {
-        return Mark::Of(Kind::End);
-    }
-    Mark::Unknown
 }
 
-fn mark_at(input: &[u8], at: usize) -> Mark
+fn mark_at(input: &[u8], at: usize) -> Option<Kind>
     requires { at + 2 ≤ length input.now }
     ensures { result ≡ mark_at input.now at }
 {
@@ -153,87 +102,64 @@ fn mark_at(input: &[u8], at: usize) -> Mark
 }
 
 // The way decides how the four bytes are read.
-fn way_of(way: u8, bits: u32) -> SizingWays
+fn way_of(way: u8, bits: u32) -> Option<SizingWay>
     ensures { result ≡ sizing_way_of way bits }
 {
-    if way == 0 {
-        return SizingWays::Known(SizingWay::Size(program_words::float_of(bits)));
+    match way {
+        0 => Some(SizingWay::Size(program_words::float_of(bits))),
+        1 => Some(SizingWay::Resolution(bits)),
+        _ => None,
     }
-    if way == 1 {
-        return SizingWays::Known(SizingWay::Resolution(bits));
-    }
-    SizingWays::Unknown
 }
 
-fn mode_of(mode: u8) -> Modes
+fn mode_of(mode: u8) -> Option<Mode>
     ensures { result ≡ mode_of mode }
 {
-    if mode == 0 {
-        return Modes::Known(Mode::SurfaceOnly);
+    match mode {
+        0 => Some(Mode::SurfaceOnly),
+        1 => Some(Mode::Flood),
+        2 => Some(Mode::Cavities),
+        _ => None,
     }
-    if mode == 1 {
-        return Modes::Known(Mode::Flood);
-    }
-    if mode == 2 {
-        return Modes::Known(Mode::Cavities);
-    }
-    Modes::Unknown
 }
 
 // ---- the first step
 
-fn no_start(number: u8) -> Start
-    ensures { result ≡ refused_start number }
-{
-    Start::Refused(Refusal { number, place: 0 })
-}
-
-fn head_of(way: u8, mode: u8, bits: u32) -> Start
+fn head_of(way: u8, mode: u8, bits: u32) -> Result<Head, Refusal>
     ensures { result ≡ head_of way mode bits }
 {
-    let SizingWays::Known(way) = way_of(way, bits) else {
-        return no_start(grid::BAD_RECORD);
+    let Some(way) = way_of(way, bits) else {
+        return Err(Reason::BadRecord.at(0));
     };
-    let Modes::Known(mode) = mode_of(mode) else {
-        return no_start(grid::BAD_RECORD);
+    let Some(mode) = mode_of(mode) else {
+        return Err(Reason::BadRecord.at(0));
     };
-    Start::Took(Head { way, mode })
+    Ok(Head { way, mode })
 }
 
-fn head_from(input: &[u8]) -> Start
+fn head_from(input: &[u8]) -> Result<Head, Refusal>
     ensures { result ≡ head_by (bytes_at input.now 0 8) input.now }
 {
-    let Bytes::There = bytes_at(input, 0, HEAD) else {
-        return no_start(grid::CUT_INPUT);
+    let true = bytes_at(input, 0, HEAD) else {
+        return Err(Reason::CutInput.at(0));
     };
     head_of(input[2], input[3], program_words::word(input, 4))
 }
 
 // The head, which comes first.
-fn take_head(input: &[u8]) -> Start
+fn take_head(input: &[u8]) -> Result<Head, Refusal>
     ensures { result ≡ start_at input.now }
 {
-    let Bytes::There = bytes_at(input, 0, MARK) else {
-        return no_start(grid::CUT_INPUT);
+    let true = bytes_at(input, 0, MARK) else {
+        return Err(Reason::CutInput.at(0));
     };
-    let Mark::Of(kind) = mark_at(input, 0) else {
-        return no_start(grid::BAD_RECORD);
+    let Some(Kind::Head) = mark_at(input, 0) else {
+        return Err(Reason::BadRecord.at(0));
     };
-    match kind {
-        Kind::Head => head_from(input),
-        Kind::Point => no_start(grid::BAD_RECORD),
-        Kind::Triangle => no_start(grid::BAD_RECORD),
-        Kind::End => no_start(grid::BAD_RECORD),
-    }
+    head_from(input)
 }
 
 // ---- a later step
-
-fn no_record(number: u8, place: usize) -> Step
-    ensures { result ≡ refused number place }
-{
-    Step::Refused(Refusal { number, place })
-}
 
 fn point_from(input: &[u8], at: usize) -> Point
     requires { at + 12 ≤ length input.now }
@@ -255,58 +181,58 @@ fn corners_from(input: &[u8], at: usize) -> Corners
     Corners { a, b, c }
 }
 
-fn point_step(input: &[u8], at: usize, n: Taken) -> Step
+fn point_step(input: &[u8], at: usize, n: Taken) -> Result<InputRecord, Refusal>
     requires { at ≤ length input.now }
     ensures { result ≡ point_step input.now at n }
 {
     if MOST <= n.points {
-        return no_record(grid::BAD_COUNT, 0);
+        return Err(Reason::BadCount.at(0));
     }
     if 0 < n.triangles {
-        return no_record(grid::BAD_RECORD, at);
+        return Err(Reason::BadRecord.at(at));
     }
-    let Bytes::There = bytes_at(input, at, TRIPLE) else {
-        return no_record(grid::CUT_INPUT, at);
+    let true = bytes_at(input, at, TRIPLE) else {
+        return Err(Reason::CutInput.at(at));
     };
-    Step::Took(InputRecord::Point(point_from(input, at + MARK)))
+    Ok(InputRecord::Point(point_from(input, at + MARK)))
 }
 
-fn triangle_step(input: &[u8], at: usize, n: Taken) -> Step
+fn triangle_step(input: &[u8], at: usize, n: Taken) -> Result<InputRecord, Refusal>
     requires { at ≤ length input.now }
     ensures { result ≡ triangle_step input.now at n }
 {
     if MOST <= n.triangles {
-        return no_record(grid::BAD_COUNT, 0);
+        return Err(Reason::BadCount.at(0));
     }
-    let Bytes::There = bytes_at(input, at, TRIPLE) else {
-        return no_record(grid::CUT_INPUT, at);
+    let true = bytes_at(input, at, TRIPLE) else {
+        return Err(Reason::CutInput.at(at));
     };
-    Step::Took(InputRecord::Triangle(corners_from(input, at + MARK)))
+    Ok(InputRecord::Triangle(corners_from(input, at + MARK)))
 }
 
-fn end_step(input: &[u8], at: usize) -> Step
+fn end_step(input: &[u8], at: usize) -> Result<InputRecord, Refusal>
     requires { at ≤ length input.now }
     ensures { result ≡ end_step input.now at }
 {
     if MARK < input.len() - at {
-        return no_record(grid::BAD_RECORD, at + MARK);
+        return Err(Reason::BadRecord.at(at + MARK));
     }
-    Step::Took(InputRecord::End)
+    Ok(InputRecord::End)
 }
 
 // The record at `at`, after so many points and triangles.
-fn take_record(input: &[u8], at: usize, n: Taken) -> Step
+fn take_record(input: &[u8], at: usize, n: Taken) -> Result<InputRecord, Refusal>
     requires { at ≤ length input.now }
     ensures { result ≡ step_at input.now at n }
 {
-    let Bytes::There = bytes_at(input, at, MARK) else {
-        return no_record(grid::CUT_INPUT, at);
+    let true = bytes_at(input, at, MARK) else {
+        return Err(Reason::CutInput.at(at));
     };
-    let Mark::Of(kind) = mark_at(input, at) else {
-        return no_record(grid::BAD_RECORD, at);
+    let Some(kind) = mark_at(input, at) else {
+        return Err(Reason::BadRecord.at(at));
     };
     match kind {
-        Kind::Head => no_record(grid::BAD_RECORD, at),
+        Kind::Head => Err(Reason::BadRecord.at(at)),
         Kind::Point => point_step(input, at, n),
         Kind::Triangle => triangle_step(input, at, n),
         Kind::End => end_step(input, at),
@@ -334,46 +260,40 @@ fn put_corners(out: &mut [u32], n: usize, t: Corners)
 }
 
 // The records after the head.
-fn read_on(input: &[u8], head: Head, ps: &mut [f32], ts: &mut [u32]) -> Reading
+fn read_on(input: &[u8], head: Head, ps: &mut [f32], ts: &mut [u32]) -> Result<Reading, Refusal>
     requires in_bounds { 8 ≤ length input.now }
     requires ps_len { (length ps.old ≡ 768) × (length ts.old ≡ 768) }
-    ensures reads { Reads input.now head 8 [] [] (outcome result ps.new ts.new) }
+    ensures reads { Reads input.now head 8 [] [] (stream_in result ps.new ts.new) }
     ensures few { Few result × (length ps.new ≡ 768) × (length ts.new ≡ 768) }
 {
     let mut at = HEAD;
     let mut points = 0usize;
     let mut triangles = 0usize;
     loop {
-        match take_record(input, at, Taken { points, triangles }) {
-            Step::Refused(f) => return Reading::Refused(f),
-            Step::Took(r) => match r {
-                InputRecord::End => return Reading::Complete(head, Taken { points, triangles }),
-                InputRecord::Point(p) => {
-                    put_point(ps, 3 * points, p);
-                    points += 1;
-                    at += TRIPLE;
-                    continue;
-                }
-                InputRecord::Triangle(t) => {
-                    put_corners(ts, 3 * triangles, t);
-                    triangles += 1;
-                    at += TRIPLE;
-                    continue;
-                }
-            },
+        let taken = Taken { points, triangles };
+        let record = take_record(input, at, taken)?;
+        match record {
+            InputRecord::End => return Ok(Reading { head, taken }),
+            InputRecord::Point(p) => {
+                put_point(ps, 3 * points, p);
+                points += 1;
+            }
+            InputRecord::Triangle(t) => {
+                put_corners(ts, 3 * triangles, t);
+                triangles += 1;
+            }
         }
+        at += TRIPLE;
     }
 }
 
 // Reads the whole input: the points' numbers stand at the front of `ps` and the triangles' at the front of
 // `ts`, three for each that the answer counts.
-pub fn read(input: &[u8], ps: &mut [f32], ts: &mut [u32]) -> Reading
+pub fn read(input: &[u8], ps: &mut [f32], ts: &mut [u32]) -> Result<Reading, Refusal>
     requires { (length ps.old ≡ 768) × (length ts.old ≡ 768) }
-    ensures read { Read input.now (outcome result ps.new ts.new) }
+    ensures read { Read input.now (stream_in result ps.new ts.new) }
     ensures few { Few result × (length ps.new ≡ 768) × (length ts.new ≡ 768) }
 {
-    match take_head(input) {
-        Start::Refused(f) => Reading::Refused(f),
-        Start::Took(head) => read_on(input, head, ps, ts),
-    }
+    let head = take_head(input)?;
+    read_on(input, head, ps, ts)
 }

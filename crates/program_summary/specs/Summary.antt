@@ -1,15 +1,12 @@
 -- 01, Program records: what the program says of an input. Definitions only.
-use Rattle.std.specs.Prelude.{List, ◌≡◌, ℕ, ltb, Float, length}
+use Rattle.std.specs.Prelude.{List, ◌≡◌, ℕ, ltb, Float, length, Ok, Err}
 use Rattle.grid.specs.declared.Axes.{Axes}
-use Rattle.grid.specs.declared.Checked.{Checked}
-use Rattle.grid.specs.declared.Checked.TheVariants.{Fine, Fault}
 use Rattle.grid.specs.declared.Placement.{Placement}
 use Rattle.grid.specs.declared.Refusal.{Refusal}
-use Rattle.grid.specs.Answers.{Outcome, answers, refuses, fault_if, ◌and_then◌, unless}
+use Rattle.grid.specs.Answers.{Outcome, fault_if, ◌and_then◌, Checked}
 use Rattle.grid.specs.Counts.{count_of}
 use Rattle.grid.specs.Grid.{cells}
 use Rattle.grid.specs.Labels.{OUTSIDE, INSIDE, SURFACE}
-use Rattle.grid.specs.Refusals.{BAD_AXIS}
 use Rattle.sizing.specs.Points.{none_fault, numbers_fault}
 use Rattle.sizing.specs.Sizing.{Laid, points, by_size, by_resolution}
 use Rattle.marking_mesh.specs.Faults.{missing_fault}
@@ -21,13 +18,7 @@ use Rattle.program_reader.specs.declared.SizingWay.{SizingWay}
 use Rattle.program_reader.specs.declared.SizingWay.TheVariants.{Size, Resolution}
 use Rattle.program_reader.specs.Reading.{Stream, Read}
 use Rattle.program_summary.specs.declared.Summary.{Summary}
-use Rattle.program_summary.specs.declared.Summing.{Summing}
-use Rattle.program_summary.specs.declared.Summing.TheVariants.{Summed, Refused}
-
--- 01's number and values for each case of `Summing`
-abbrev pub outcome : Summing → Outcome Summary
-outcome (Summed n) = answers n
-outcome (Refused f) = refuses f.number f.place
+use Rattle.grid.specs.declared.Reason.TheVariants.{BadAxis}
 
 -- ---- the checks that a complete input meets
 
@@ -41,11 +32,11 @@ sized_by (Size size) ps = by_size ps size
 sized_by (Resolution r) ps = by_resolution ps r
 
 abbrev pub laid_of : SizingWay → List Float → List ℕ → Outcome Laid
-laid_of way ps ts = unless (stream_fault ps ts) (sized_by way ps)
+laid_of way ps ts = stream_fault ps ts and_then sized_by way ps
 
 -- "At most .. 32,768 cells (else 8)"
 abbrev pub cells_many_fault : Axes → Checked
-cells_many_fault r = fault_if (ltb 32768 (cells r)) BAD_AXIS 0 Fine
+cells_many_fault r = fault_if (ltb 32768 (cells r)) BadAxis 0 (Ok tt)
 
 -- ---- the map
 
@@ -58,20 +49,20 @@ pub record Tallied (mode : Mode) (r : Axes) (marks : List ℕ) (o : Outcome Summ
   pub labels : List ℕ
   pub counts : FillCounts
   pub filled : Fills mode r marks counts labels
-  pub is : o ≡ answers (summary_of r counts labels)
+  pub is : o ≡ Ok (summary_of r counts labels)
 
 -- the map of a mesh over a grid, or refusal 8 of too many cells
 pub data Mapped (mode : Mode) (ps : List Float) (ts : List ℕ) (r : Axes) (placement : Placement) : Outcome Summary → Type 0 where
-  many : {f : Refusal} → cells_many_fault r ≡ Fault f → Mapped mode ps ts r placement (refuses f.number f.place)
-  few : {o : Outcome Summary} → cells_many_fault r ≡ Fine → Tallied mode r (marked_labels ps ts r placement) o → Mapped mode ps ts r placement o
+  many : {f : Refusal} → cells_many_fault r ≡ Err f → Mapped mode ps ts r placement (Err f)
+  few : {o : Outcome Summary} → cells_many_fault r ≡ Ok tt → Tallied mode r (marked_labels ps ts r placement) o → Mapped mode ps ts r placement o
 
 -- what is said of a complete input
 pub data Sums (s : Stream) : Outcome Summary → Type 0 where
-  refused : {n place : ℕ} → laid_of s.head.way s.points s.triangles ≡ refuses n place → Sums s (refuses n place)
-  laid : {l : Laid} {o : Outcome Summary} → laid_of s.head.way s.points s.triangles ≡ answers l
+  refused : {f : Refusal} → laid_of s.head.way s.points s.triangles ≡ Err f → Sums s (Err f)
+  laid : {l : Laid} {o : Outcome Summary} → laid_of s.head.way s.points s.triangles ≡ Ok l
       → Mapped s.head.mode s.points s.triangles l.axes l.placement o → Sums s o
 
 -- the whole call: "The first faulty record ends the reading with 16, 17 or .. 1; only a complete input meets the other checks"
 pub data Summarizes (input : List ℕ) : Outcome Summary → Type 0 where
-  faulty : {n place : ℕ} → Read input (refuses n place) → Summarizes input (refuses n place)
-  complete : {s : Stream} {o : Outcome Summary} → Read input (answers s) → Sums s o → Summarizes input o
+  faulty : {f : Refusal} → Read input (Err f) → Summarizes input (Err f)
+  complete : {s : Stream} {o : Outcome Summary} → Read input (Ok s) → Sums s o → Summarizes input o

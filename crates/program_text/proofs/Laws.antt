@@ -14,7 +14,7 @@ use Rattle.io.specs.Digits.{hex_digit_ascii, last_digits, IsDigitCount}
 use Rattle.grid.proofs.First.{le_or_lt}
 use Rattle.order.specs.Order.{join_all}
 use Rattle.order.specs.Output.{Written}
-use Rattle.order.proofs.Outputs.{written_none, written_one, written_then, written_more}
+use Rattle.order.proofs.Outputs.{written_none, written_one, written_then}
 use Rattle.order.proofs.Lists.{join_append, join_one}
 use Rattle.program_text.specs.Text.{decimal_in, decimal, spaced, line, PutText}
 
@@ -76,31 +76,6 @@ put_as at n xs ys a b e p = subst (λ (zs : List ℕ). PutText at zs a b n) e p
 
 pub put_one : (at x : ℕ) (o : List ℕ) → at < length o → PutText at (x ∷ []) o (set o at x) (at + 1)
 put_one at x o h = record { written = written_one 0 at x o h; ends = refl }
-
--- ---- the loop over bytes
-
-pub record SoFar (at : ℕ) (bytes o m : List ℕ) (i : ℕ) : Type 0 where
-  pub front : Written 0 at (take i bytes) o m
-  pub few : i ≤ length bytes
-
-module _ (at : ℕ) (bytes o m : List ℕ) (i : ℕ) (w : SoFar at bytes o m i) where
-  pub one_more : at + length bytes ≤ length o → i < length bytes → (x : ℕ) → x ≡ get_or bytes i 0 → SoFar at bytes o (set m (at + i) x) (i + 1)
-  one_more room h x e =
-      let k = length-take-le i bytes (omega arith) in
-      let s = written_more 0 at x (take i bytes) o m w.front (omega (arith, k)) in
-      record {
-        front =
-            subst (λ (ys : List ℕ). Written 0 at ys o (set m (at + i) x))
-            ((λ t. take i bytes ++ (e t ∷ [])) ∙ sym (take-suc bytes i 0 h) ∙ ap (λ (n : ℕ). take n bytes) (let z : suc i ≡ i + 1 = omega arith in z))
-            (subst (λ (n : ℕ). Written 0 at (take i bytes ++ (x ∷ [])) o (set m (at + n) x)) k s);
-        few = omega arith;
-      }
-
-  pub all_put : length bytes ≤ i → PutText at bytes o m (at + i)
-  all_put h = record {
-    written = subst (λ (ys : List ℕ). Written 0 at ys o m) (take_all i bytes h) w.front;
-    ends = let e : i ≡ length bytes = omega (arith, w.few) in ap (λ (n : ℕ). at + n) e;
-  }
 
 -- ---- numbers, each after a space
 

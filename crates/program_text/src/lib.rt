@@ -10,12 +10,9 @@ pub fn put_bytes(out: &mut [u8], at: usize, bytes: &[u8]) -> usize
     requires { at + length bytes.now ≤ length out.old }
     ensures { PutText at bytes.now out.old out.new result }
 {
-    let mut i = 0usize;
-    while i < bytes.len() {
-        out[at + i] = bytes[i];
-        i += 1;
-    }
-    at + i
+    let end = at + bytes.len();
+    out[at..end].copy_from_slice(bytes);
+    end
 }
 
 // A space and a number in decimal.
@@ -35,10 +32,8 @@ pub fn put_numbers(out: &mut [u8], at: usize, numbers: &[usize]) -> usize
     ensures { PutText at (join_all spaced numbers.now) out.old out.new result }
 {
     let mut end = at;
-    let mut i = 0usize;
-    while i < numbers.len() {
-        end = put_number(out, end, numbers[i]);
-        i += 1;
+    for number in numbers {
+        end = put_number(out, end, *number);
     }
     end
 }

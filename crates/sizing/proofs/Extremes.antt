@@ -1,4 +1,5 @@
 -- The spans of points without a fault: their lower ends are the smallest coordinates as 01 means it (`Smallest`), of which there is one, their upper ends the greatest. Assumes nothing.
+use Rattle.std.specs.Prelude.{Ok}
 use mathlib.Core.Path.{◌≡◌, refl, sym, ap, ◌∙◌, subst}
 use mathlib.Core.Bool.{Bool, true, false, cond, true≢false, false≢true}
 use mathlib.Core.List.{List}
@@ -11,7 +12,6 @@ use lib.ListN.{length}
 use lib.Ieee.{Float, nan, inf, fin, lt, le}
 use lib.Ieee.Scale.{finite}
 use Rattle.numbers.proofs.Order.{lt_through, lt_le, not_lt_le, le_not, le_self, le_through}
-use Rattle.grid.specs.declared.Checked.TheVariants.{Fine}
 use Rattle.grid.proofs.First.{le_or_lt}
 use Rattle.sizing.specs.declared.Spans.{Spans}
 use Rattle.sizing.specs.Points.{bounded, points_fault}
@@ -151,7 +151,7 @@ pub record Spanned (ps : List Float) (a : ℕ) (lo hi : Float) : Type 0 where
   pub high_bounded : bounded 20 hi ≡ true
   pub in_order : le lo hi ≡ true
 
-module _ (ps : List Float) (h : points_fault ps ≡ Fine) where
+module _ (ps : List Float) (h : points_fault ps ≡ Ok tt) where
   in_list : (i a : ℕ) → i ≤ points ps - 1 → a < 3 → 3 * i + a < length ps
   in_list i a l k = omega (arith, whole_points ps h, some_point ps h)
 

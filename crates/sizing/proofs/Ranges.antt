@@ -1,4 +1,5 @@
 -- What sizing's answers say: that a result is settled, which numbers each way gives, that axes are in range, where the origin lies, and the reciprocal. Assumes nothing.
+use Rattle.std.specs.Prelude.{Ok}
 use mathlib.Core.Path.{◌≡◌, refl, sym, ◌∙◌, subst}
 use mathlib.Core.Bool.{Bool, true, false, not, cond, ◌&&◌, ◌||◌, true≢false, false≢true}
 use mathlib.Core.List.{List, [], ◌∷◌}
@@ -10,44 +11,29 @@ use lib.IntN.{pos}
 use lib.Ieee.{Float, fin, binary32, lt, le, div, mul}
 use lib.Ieee.Scale.{finite}
 use borrow.Author.Tests.{leb-false}
-use Rattle.numbers.specs.declared.Whole.{Whole}
-use Rattle.numbers.specs.declared.Whole.TheVariants.{Of}
+use Rattle.numbers.specs.Rounding.{Whole}
 use Rattle.numbers.specs.Rounding.{ceil_of, trunc_of}
 use Rattle.numbers.proofs.Order.{lt_through, lt_asym, lt_le, not_lt_le, not_le_lt, le_self}
 use Rattle.grid.specs.declared.Axes.{Axes}
-use Rattle.grid.specs.declared.Checked.TheVariants.{Fine}
-use Rattle.grid.specs.Answers.{Outcome, answers, ◌and_then◌, is_one_of, Finds, Gives}
+use Rattle.grid.specs.Answers.{Outcome, ◌and_then◌, is_one_of, Finds, Gives}
 use Rattle.grid.specs.First.{first_not}
 use Rattle.grid.specs.Grid.{Axis, Sound}
 use Rattle.grid.specs.Checks.{axes_fault, bad_axis}
-use Rattle.grid.proofs.Checks.{passed, both_fine, finds_if, finds_then, gives_unless, answered, axes_fine}
+use Rattle.grid.proofs.Checks.{passed, both_fine, finds_if, finds_then, gives_then, answered, axes_fine}
 use Rattle.grid.proofs.First.{both_true}
 use Rattle.sizing.specs.declared.Spans.{Spans}
-use Rattle.sizing.specs.declared.Sized.{Sized}
-use Rattle.sizing.specs.declared.Sized.TheVariants.{Grid, Refused}
 use Rattle.sizing.specs.Points.{bounded, length_fault, none_fault, numbers_fault, points_fault}
-use Rattle.sizing.specs.Sizing.{Laid, outcome, Smallest, extent, spans_of, placed_at, size_fault, larger, natural, size_axes, grid_of, size_grid, by_size, resolution_fault, tops, main_axis, extent_at, least_extent, extent_fault, as_float, main_of, dmain_of, resolution_axes, resolution_scale, resolution_grid, by_resolution, least_size, greatest_size}
+use Rattle.sizing.specs.Sizing.{Laid, Smallest, extent, spans_of, placed_at, size_fault, larger, natural, size_axes, grid_of, size_grid, by_size, resolution_fault, tops, main_axis, extent_at, least_extent, extent_fault, as_float, main_of, dmain_of, resolution_axes, resolution_scale, resolution_grid, by_resolution, least_size, greatest_size}
 use Rattle.sizing.proofs.Laws.{resolution_fine}
 use Rattle.sizing.proofs.Extremes.{x_spanned, y_spanned, z_spanned}
 use Rattle.sizing.proofs.Ratio.{Extent, difference, whole_part, whole_quotient}
+use Rattle.grid.specs.declared.Reason.TheVariants.{BadCount, NoPoints, BadNumber, BadSize, BadResolution, NoExtent, BadAxis}
 
 -- ---- two results that fit a call's promise are one
 
-outcome_one : (a b : Sized) → outcome a ≡ outcome b → a ≡ b
-outcome_one (Grid a p) (Grid b q) h = let e = same (record { axes = a; placement = p }) (record { axes = b; placement = q }) h in λ t. Grid (e t).axes (e t).placement
-  where
-    same : (x y : Laid) → answers x ≡ answers y → x ≡ y
-    same x y e = cc
-outcome_one (Grid a p) (Refused g) h = absurd (let z : ◌≡◌ {A = ℕ} 0 1 = cc in omega arith)
-outcome_one (Refused f) (Grid b q) h = absurd (let z : ◌≡◌ {A = ℕ} 0 1 = cc in omega arith)
-outcome_one (Refused f) (Refused g) h =
-    let e : f.number ≡ g.number = cc in
-    let k : f.place ≡ g.place = cc in
-    λ t. Refused (record { number = e t; place = k t })
-
 -- for any promise: by_size and by_resolution
-pub settled : (o : Outcome Laid) (a b : Sized) → outcome a ≡ o → outcome b ≡ o → a ≡ b
-settled o a b p q = outcome_one a b (p ∙ sym q)
+pub settled : (o : Outcome Laid) (a b : Outcome Laid) → a ≡ o → b ≡ o → a ≡ b
+settled o a b p q = (p ∙ sym q)
 
 -- ---- the points' checks
 
@@ -55,22 +41,22 @@ points_find : (ns : List ℕ) (ps : List Float) → Finds (1 ∷ 2 ∷ 3 ∷ ns)
 points_find ns ps =
     let n = length ps in
     finds_then (1 ∷ 2 ∷ 3 ∷ ns) (length_fault n) (none_fault n and_then numbers_fault 0 ps)
-    (finds_if (1 ∷ 2 ∷ 3 ∷ ns) (not (eqb (n % 3) 0) || ltb 65536 (n / 3)) 1 0 Fine tt tt)
+    (finds_if (1 ∷ 2 ∷ 3 ∷ ns) (not (eqb (n % 3) 0) || ltb 65536 (n / 3)) BadCount 0 (Ok tt) tt tt)
     (finds_then (1 ∷ 2 ∷ 3 ∷ ns) (none_fault n) (numbers_fault 0 ps)
-    (finds_if (1 ∷ 2 ∷ 3 ∷ ns) (eqb n 0) 2 0 Fine tt tt)
-    (finds_if (1 ∷ 2 ∷ 3 ∷ ns) (ltb (first_not (bounded 20) ps) n) 3 (0 + first_not (bounded 20) ps) Fine tt tt))
+    (finds_if (1 ∷ 2 ∷ 3 ∷ ns) (eqb n 0) NoPoints 0 (Ok tt) tt tt)
+    (finds_if (1 ∷ 2 ∷ 3 ∷ ns) (ltb (first_not (bounded 20) ps) n) BadNumber (0 + first_not (bounded 20) ps) (Ok tt) tt tt))
 
 -- ---- by cell size: 1, 2, 3, 5, 8
 
 axes_find : (ns : List ℕ) → T (is_one_of 8 ns) → (r : Axes) → Finds ns (axes_fault r)
-axes_find ns h r = finds_if ns (bad_axis r.r0) 8 0 _ h (finds_if ns (bad_axis r.r1) 8 1 _ h (finds_if ns (bad_axis r.r2) 8 2 Fine h tt))
+axes_find ns h r = finds_if ns (bad_axis r.r0) BadAxis 0 _ h (finds_if ns (bad_axis r.r1) BadAxis 1 _ h (finds_if ns (bad_axis r.r2) BadAxis 2 (Ok tt) h tt))
 
 pub size_numbers : (ps : List Float) (size : Float) → Gives (1 ∷ 2 ∷ 3 ∷ 5 ∷ 8 ∷ []) (by_size ps size)
 size_numbers ps size =
     let ns : List ℕ = 1 ∷ 2 ∷ 3 ∷ 5 ∷ 8 ∷ [] in
-    gives_unless ns (points_fault ps and_then size_fault size) (size_grid (spans_of ps) size)
-    (finds_then ns (points_fault ps) (size_fault size) (points_find (5 ∷ 8 ∷ []) ps) (finds_if ns (not (le least_size size && le size greatest_size)) 5 0 Fine tt tt))
-    (λ f. gives_unless ns (axes_fault (size_axes (spans_of ps) size)) _ (axes_find ns tt (size_axes (spans_of ps) size)) (λ g. tt))
+    gives_then ns (points_fault ps and_then size_fault size) (size_grid (spans_of ps) size)
+    (finds_then ns (points_fault ps) (size_fault size) (points_find (5 ∷ 8 ∷ []) ps) (finds_if ns (not (le least_size size && le size greatest_size)) BadSize 0 (Ok tt) tt tt))
+    (λ f. gives_then ns (axes_fault (size_axes (spans_of ps) size)) _ (axes_find ns tt (size_axes (spans_of ps) size)) (λ g. tt))
 
 -- ---- what an answer says, either way
 
@@ -82,16 +68,16 @@ pub record Answered (ps : List Float) (scale : Float) (l : Laid) : Type 0 where
   pub scale_is : l.placement.scale ≡ scale
   pub reciprocal_is : l.placement.reciprocal ≡ div binary32 (fin false 1 (pos 0)) l.placement.scale
 
-module _ (ps : List Float) (points-fine : points_fault ps ≡ Fine) (scale : Float) (a : Axes) (l : Laid) where
-  pub is_laid : grid_of a (placed_at (spans_of ps) scale) ≡ answers l → Sound a × (record { axes = a; placement = placed_at (spans_of ps) scale } ≡ l)
+module _ (ps : List Float) (points-fine : points_fault ps ≡ Ok tt) (scale : Float) (a : Axes) (l : Laid) where
+  pub is_laid : grid_of a (placed_at (spans_of ps) scale) ≡ Ok l → Sound a × (record { axes = a; placement = placed_at (spans_of ps) scale } ≡ l)
   is_laid h =
-      let w = answered (axes_fault a) (answers (record { axes = a; placement = placed_at (spans_of ps) scale })) l h in
+      let w = answered (axes_fault a) (Ok (record { axes = a; placement = placed_at (spans_of ps) scale })) l h in
       ((axes_fine a).0 w.0, same (record { axes = a; placement = placed_at (spans_of ps) scale }) l w.1)
     where
-      same : (x y : Laid) → answers x ≡ answers y → x ≡ y
+      same : (x y : Laid) → ◌≡◌ {A = Outcome Laid} (Ok x) (Ok y) → x ≡ y
       same x y e = cc
 
-  answered_by : grid_of a (placed_at (spans_of ps) scale) ≡ answers l → Answered ps scale l
+  answered_by : grid_of a (placed_at (spans_of ps) scale) ≡ Ok l → Answered ps scale l
   answered_by h =
       let w = is_laid h in
       subst (Answered ps scale) w.1
@@ -112,7 +98,7 @@ three_cells n = go (leb n 2) refl
     go true h = omega arith
     go false h = let l = leb-false n 2 h in omega arith
 
-pub size_answer : (ps : List Float) (size : Float) (l : Laid) → by_size ps size ≡ answers l
+pub size_answer : (ps : List Float) (size : Float) (l : Laid) → by_size ps size ≡ Ok l
     → Answered ps size l × (3 ≤ l.axes.r0) × (3 ≤ l.axes.r1) × (3 ≤ l.axes.r2)
 size_answer ps size l h =
     let w = answered (points_fault ps and_then size_fault size) (size_grid (spans_of ps) size) l h in
@@ -174,7 +160,7 @@ of_main P m dx dy dz x y z = go (eqb m 0) (eqb m 1)
 pub extent_finite : {d : Float} → Extent d → T (finite d)
 extent_finite {d} e = subst (λ (x : Float). T (finite x)) (sym e.is) tt
 
-module _ (ps : List Float) (f : points_fault ps ≡ Fine) where
+module _ (ps : List Float) (f : points_fault ps ≡ Ok tt) where
   abbrev s : Spans
   s = spans_of ps
 
@@ -195,24 +181,24 @@ module _ (ps : List Float) (f : points_fault ps ≡ Fine) where
 
 -- a rounded quotient that is a count, so that what `natural` has for any other never shows
 abbrev pub IsCount : Whole → Type 0
-IsCount w = (n : ℕ) × (w ≡ Of (pos n))
+IsCount w = (n : ℕ) × (w ≡ Ok (pos n))
 
 not_false : (b : Bool) → not b ≡ false → b ≡ true
 not_false true h = refl
 not_false false h = absurd (true≢false h)
 
 -- by size and by resolution every axis is made of one
-pub size_counts : (ps : List Float) (size : Float) → points_fault ps ≡ Fine → size_fault size ≡ Fine
+pub size_counts : (ps : List Float) (size : Float) → points_fault ps ≡ Ok tt → size_fault size ≡ Ok tt
     → IsCount (ceil_of (div binary32 (extent (spans_of ps).x) size)) × IsCount (ceil_of (div binary32 (extent (spans_of ps).y) size)) × IsCount (ceil_of (div binary32 (extent (spans_of ps).z) size))
 size_counts ps size f g =
     let s = spans_of ps in
     let d = extents ps f in
-    let b = not_false (le least_size size && le size greatest_size) (passed (not (le least_size size && le size greatest_size)) 5 0 Fine g).0 in
+    let b = not_false (le least_size size && le size greatest_size) (passed (not (le least_size size && le size greatest_size)) BadSize 0 (Ok tt) g).0 in
     let lo = (both_true (le least_size size) (le size greatest_size) b).0 in
     let hi = (both_true (le least_size size) (le size greatest_size) b).1 in
     (whole_quotient (extent s.x) size d.0 lo hi, whole_quotient (extent s.y) size d.1 lo hi, whole_quotient (extent s.z) size d.2 lo hi)
 
-two_more_sound : (r n : ℕ) (w : Whole) → r ≤ 254 → w ≡ Of (pos n) → n ≤ r → Axis (2 + natural w)
+two_more_sound : (r n : ℕ) (w : Whole) → r ≤ 254 → w ≡ Ok (pos n) → n ≤ r → Axis (2 + natural w)
 unfolding natural
 two_more_sound r n w R e h = subst (λ (x : Whole). Axis (2 + natural x)) (sym e) (record { some = omega arith; most = omega arith })
 
@@ -221,7 +207,7 @@ axis_sound : (r : ℕ) → 2 ≤ r → r ≤ 254 → (t : Bool) (d m : Float) �
 axis_sound r L R true d m D M h k = record { some = omega arith; most = omega arith }
 axis_sound r L R false d m D M h k = let w = whole_part r R d m D M h k in two_more_sound r w.0 (trunc_of (div binary32 (mul binary32 (as_float r) d) m)) R w.1 w.2
 
-pub resolution_sound : (ps : List Float) (r : ℕ) → points_fault ps ≡ Fine → resolution_fault r ≡ Fine → extent_fault (dmain_of (spans_of ps)) ≡ Fine
+pub resolution_sound : (ps : List Float) (r : ℕ) → points_fault ps ≡ Ok tt → resolution_fault r ≡ Ok tt → extent_fault (dmain_of (spans_of ps)) ≡ Ok tt
     → Sound (resolution_axes (spans_of ps) r)
 resolution_sound ps r f g h =
     let s = spans_of ps in
@@ -229,13 +215,13 @@ resolution_sound ps r f g h =
     let m = of_main Extent (main_of s) (extent s.x) (extent s.y) (extent s.z) d.0 d.1 d.2 in
     let t = main_largest ps f in
     let b = resolution_fine r g in
-    let k = (passed (lt (dmain_of s) least_extent) 7 0 Fine h).0 in record {
+    let k = (passed (lt (dmain_of s) least_extent) NoExtent 0 (Ok tt) h).0 in record {
       axis0 = axis_sound r b.0 b.1 (eqb (main_of s) 0) (extent s.x) (dmain_of s) d.0 m t.0 k;
       axis1 = axis_sound r b.0 b.1 (eqb (main_of s) 1) (extent s.y) (dmain_of s) d.1 m t.1 k;
       axis2 = axis_sound r b.0 b.1 (eqb (main_of s) 2) (extent s.z) (dmain_of s) d.2 m t.2 k;
     }
 
-pub resolution_counts : (ps : List Float) (r : ℕ) → points_fault ps ≡ Fine → resolution_fault r ≡ Fine → extent_fault (dmain_of (spans_of ps)) ≡ Fine
+pub resolution_counts : (ps : List Float) (r : ℕ) → points_fault ps ≡ Ok tt → resolution_fault r ≡ Ok tt → extent_fault (dmain_of (spans_of ps)) ≡ Ok tt
     → IsCount (trunc_of (div binary32 (mul binary32 (as_float r) (extent (spans_of ps).x)) (dmain_of (spans_of ps))))
     × IsCount (trunc_of (div binary32 (mul binary32 (as_float r) (extent (spans_of ps).y)) (dmain_of (spans_of ps))))
     × IsCount (trunc_of (div binary32 (mul binary32 (as_float r) (extent (spans_of ps).z)) (dmain_of (spans_of ps))))
@@ -245,7 +231,7 @@ resolution_counts ps r f g h =
     let m = of_main Extent (main_of s) (extent s.x) (extent s.y) (extent s.z) d.0 d.1 d.2 in
     let t = main_largest ps f in
     let R = (resolution_fine r g).1 in
-    let k = (passed (lt (dmain_of s) least_extent) 7 0 Fine h).0 in
+    let k = (passed (lt (dmain_of s) least_extent) NoExtent 0 (Ok tt) h).0 in
     let x = whole_part r R (extent s.x) (dmain_of s) d.0 m t.0 k in
     let y = whole_part r R (extent s.y) (dmain_of s) d.1 m t.1 k in
     let z = whole_part r R (extent s.z) (dmain_of s) d.2 m t.2 k in
@@ -256,16 +242,16 @@ pub resolution_numbers : (ps : List Float) (r : ℕ) → Gives (1 ∷ 2 ∷ 3 �
 resolution_numbers ps r =
     let ns : List ℕ = 1 ∷ 2 ∷ 3 ∷ 6 ∷ 7 ∷ [] in
     let s = spans_of ps in
-    gives_unless ns (points_fault ps and_then resolution_fault r) (resolution_grid s r)
-    (finds_then ns (points_fault ps) (resolution_fault r) (points_find (6 ∷ 7 ∷ []) ps) (finds_if ns (ltb r 2 || ltb 254 r) 6 0 Fine tt tt))
+    gives_then ns (points_fault ps and_then resolution_fault r) (resolution_grid s r)
+    (finds_then ns (points_fault ps) (resolution_fault r) (points_find (6 ∷ 7 ∷ []) ps) (finds_if ns (ltb r 2 || ltb 254 r) BadResolution 0 (Ok tt) tt tt))
     (λ f.
     let w = both_fine (points_fault ps) (resolution_fault r) f in
-    gives_unless ns (extent_fault (dmain_of s)) _ (finds_if ns (lt (dmain_of s) least_extent) 7 0 Fine tt tt)
-    (λ g. gives_unless ns (axes_fault (resolution_axes s r)) _
+    gives_then ns (extent_fault (dmain_of s)) _ (finds_if ns (lt (dmain_of s) least_extent) NoExtent 0 (Ok tt) tt tt)
+    (λ g. gives_then ns (axes_fault (resolution_axes s r)) _
     (subst (Finds ns) (sym ((axes_fine (resolution_axes s r)).1 (resolution_sound ps r w.0 w.1 g))) tt)
     (λ k. tt)))
 
-pub resolution_answer : (ps : List Float) (r : ℕ) (l : Laid) → by_resolution ps r ≡ answers l → Answered ps (resolution_scale (spans_of ps) r) l
+pub resolution_answer : (ps : List Float) (r : ℕ) (l : Laid) → by_resolution ps r ≡ Ok l → Answered ps (resolution_scale (spans_of ps) r) l
 resolution_answer ps r l h =
     let s = spans_of ps in
     let w = answered (points_fault ps and_then resolution_fault r) (resolution_grid s r) l h in

@@ -1,6 +1,7 @@
 -- Three laws of `f32` numbers: a difference of two bounded numbers in order is bounded and not below 0 (`difference`); r d / m has a whole
 -- part of at most r where d is at most m (`whole_part`): rounding does not lift it to r + 1, since a value of the format lies just above
 -- r m, and another one at r + 1/2; and d over a cell size is never too large (`whole_quotient`). Sizes are fractions of natural numbers: that of `fin s m e` is m * up e / down e. Assumes nothing.
+use Rattle.std.specs.Prelude.{Ok, Err}
 use mathlib.Core.Path.{◌≡◌, refl, sym, ap, ◌∙◌, subst}
 use mathlib.Core.Logic.{◌⊎◌, inl, inr}
 use mathlib.Core.Bool.{Bool, true, false, not, cond, ◌&&◌, ◌||◌, true≢false, false≢true}
@@ -20,7 +21,7 @@ use lib.Ieee.Order.{round_mono, drop, kept}
 use lib.Ieee.Positive.{through, first_pos}
 use Prim.Native.Nat.{zero-le}
 use borrow.Author.Tests.{lt-ltb, ne_eqb, ltb-true, ltb-false, leb-true}
-use Rattle.numbers.specs.declared.Whole.TheVariants.{Of, TooLarge}
+use Rattle.numbers.specs.declared.NoWhole.TheVariants.{TooLarge}
 use Rattle.numbers.specs.Rounding.{floor_z, limit, pick_whole, ceil_of, trunc_of}
 use Rattle.numbers.proofs.Order.{le_test, le_not}
 use Rattle.numbers.proofs.Sign.{round_none}
@@ -293,7 +294,7 @@ quotient x r b l g R L c h =
 
 -- the whole part of x is a number, and at most r
 abbrev UpTo : ℕ → Float → Type 0
-UpTo r x = (n : ℕ) × (trunc_of x ≡ Of (pos n)) × (n ≤ r)
+UpTo r x = (n : ℕ) × (trunc_of x ≡ Ok (pos n)) × (n ≤ r)
 
 -- a value of at most r + 1/2
 cut : (r : ℕ) (x : Float) → r ≤ 254 → Capped x (2 * r + 1) 2 → UpTo r x
@@ -304,12 +305,12 @@ cut r x R c = subst (UpTo r) (sym c.is) (at (c.digits * up c.power) (down c.powe
     under n d D h = let e = twice r d in let f = suc-mul r d in omega arith
 
     at : (n d : ℕ) → 0 < d → n * 2 ≤ (2 * r + 1) * d
-        → (k : ℕ) × (pick_whole (ltb n (limit * d)) (Of (pos (n / d))) TooLarge ≡ Of (pos k)) × (k ≤ r)
+        → (k : ℕ) × (pick_whole (ltb n (limit * d)) (Ok (pos (n / d))) (Err TooLarge) ≡ Ok (pos k)) × (k ≤ r)
     at n d D h =
         let l : n < suc r * d = under n d D h in
         let small : suc r ≤ limit = omega arith in (
           n / d,
-          ap (λ (b : Bool). pick_whole b (Of (pos (n / d))) TooLarge) (lt-ltb n (limit * d) (lt_of_lt_of_le l (mul-le-mul_right d small))),
+          ap (λ (b : Bool). pick_whole b (Ok (pos (n / d))) (Err TooLarge)) (lt-ltb n (limit * d) (lt_of_lt_of_le l (mul-le-mul_right d small))),
           le_of_suc-le-suc ((div-lt_iff_lt-mul D).1 l),
         )
 
@@ -405,7 +406,7 @@ any_ratio r true k e false l g R (inr z) n F M h =
 
 -- (r d) / m, each operation rounded once, has a whole part of at most r where d is at most m
 pub whole_part : (r : ℕ) → r ≤ 254 → (d m : Float) → Extent d → Extent m → le d m ≡ true → lt m (fin false 1 (negsuc 9)) ≡ false
-    → (n : ℕ) × (trunc_of (div binary32 (mul binary32 (of_int binary32 (pos r)) d) m) ≡ Of (pos n)) × (n ≤ r)
+    → (n : ℕ) × (trunc_of (div binary32 (mul binary32 (of_int binary32 (pos r)) d) m) ≡ Ok (pos n)) × (n ≤ r)
 whole_part r R d m D M h k =
     rw (D.is, M.is)
     (any_ratio r D.sign D.digits D.power M.sign M.digits M.power R D.plus
@@ -423,15 +424,15 @@ count_up : (n d : ℕ) → (k : ℕ) × (neg_ℤ (floor_z (neg_ℤ (pos n)) d) �
 count_up zero d = (0, ap (λ (k : ℕ). neg_ℤ (pos k)) (zero-div d))
 count_up (suc n) d = (suc (n / d), refl)
 
-lifted : (x : Float) → Capped x (2 ^ 31) 1 → (n : ℕ) × (ceil_of x ≡ Of (pos n))
+lifted : (x : Float) → Capped x (2 ^ 31) 1 → (n : ℕ) × (ceil_of x ≡ Ok (pos n))
 unfolding ceil_of
-lifted x c = subst (λ (y : Float). (n : ℕ) × (ceil_of y ≡ Of (pos n))) (sym c.is) (at (c.digits * up c.power) (down c.power) (down_pos c.power) c.most)
+lifted x c = subst (λ (y : Float). (n : ℕ) × (ceil_of y ≡ Ok (pos n))) (sym c.is) (at (c.digits * up c.power) (down c.power) (down_pos c.power) c.most)
   where
-    at : (n d : ℕ) → 0 < d → n * 1 ≤ 2 ^ 31 * d → (k : ℕ) × (pick_whole (ltb n (limit * d)) (Of (neg_ℤ (floor_z (neg_ℤ (pos n)) d))) TooLarge ≡ Of (pos k))
+    at : (n d : ℕ) → 0 < d → n * 1 ≤ 2 ^ 31 * d → (k : ℕ) × (pick_whole (ltb n (limit * d)) (Ok (neg_ℤ (floor_z (neg_ℤ (pos n)) d))) (Err TooLarge) ≡ Ok (pos k))
     at n d D h =
         let l : n < limit * d = omega arith in
         let w = count_up n d in
-        (w.0, ap (λ (b : Bool). pick_whole b (Of (neg_ℤ (floor_z (neg_ℤ (pos n)) d))) TooLarge) (lt-ltb n (limit * d) l) ∙ ap Of w.1)
+        (w.0, ap (λ (b : Bool). pick_whole b (Ok (neg_ℤ (floor_z (neg_ℤ (pos n)) d))) (Err TooLarge)) (lt-ltb n (limit * d) l) ∙ ap Ok w.1)
 
 -- k * 2 ^ e, at most 2 ^ 21, over l * 2 ^ g, at least 2 ^ -10
 plain_size : (k : ℕ) (e : ℤ) (l : ℕ) (g : ℤ) → 0 < l → k * up e ≤ 2 ^ 21 * down e → down g ≤ l * up g * 2 ^ 10 → Capped (div binary32 (fin false k e) (fin false l g)) (2 ^ 31) 1
@@ -451,20 +452,20 @@ plain_size k e l g L h m = at (eqb l 0) (ne_eqb l 0 (apart L))
         (bound (k * up e) (down e) (down g) (l * up g) h m)
         exact_most
 
-none_lifted : (n : ℕ) × (ceil_of (fin true 0 (pos 0)) ≡ Of (pos n))
+none_lifted : (n : ℕ) × (ceil_of (fin true 0 (pos 0)) ≡ Ok (pos n))
 unfolding ceil_of
 none_lifted = (0, refl)
 
 -- d / size, rounded once, of a size from 2 ^ -10 to 2 ^ 20: its ceiling is a count, never too large and never a NaN's
 pub whole_quotient : (d size : Float) → Extent d → le (fin false 1 (negsuc 9)) size ≡ true → le size (fin false 1 (pos 20)) ≡ true
-    → (n : ℕ) × (ceil_of (div binary32 d size) ≡ Of (pos n))
+    → (n : ℕ) × (ceil_of (div binary32 d size) ≡ Ok (pos n))
 unfolding le
 whole_quotient d nan D p q = absurd (false≢true p)
 whole_quotient d (inf true) D p q = absurd (false≢true p)
 whole_quotient d (inf false) D p q = absurd (false≢true q)
 whole_quotient d (fin true l g) D p q = absurd (true≢false (not_none true l g (le_not (fin false 1 (negsuc 9)) (fin true l g) tt tt p)).0)
 whole_quotient d (fin false l g) D p q =
-    subst (λ (x : Float). (n : ℕ) × (ceil_of (div binary32 x (fin false l g)) ≡ Of (pos n))) (sym D.is) (at D.sign D.digits D.power D.plus D.most)
+    subst (λ (x : Float). (n : ℕ) × (ceil_of (div binary32 x (fin false l g)) ≡ Ok (pos n))) (sym D.is) (at D.sign D.digits D.power D.plus D.most)
   where
     some : 0 < l
     some = (not_none false l g (le_not (fin false 1 (negsuc 9)) (fin false l g) tt tt p)).1
@@ -472,9 +473,9 @@ whole_quotient d (fin false l g) D p q =
     least : down g ≤ l * up g * 2 ^ 10
     least = le_trans (le_of_eq (sym (one-mul (down g)))) (in_order (1 * 1 * down g) (l * up g * 2 ^ 10) (subst T (sym p) tt))
 
-    at : (s : Bool) (k : ℕ) (e : ℤ) → (s ≡ false) ⊎ (k ≡ 0) → k * up e ≤ 2 ^ 21 * down e → (n : ℕ) × (ceil_of (div binary32 (fin s k e) (fin false l g)) ≡ Of (pos n))
+    at : (s : Bool) (k : ℕ) (e : ℤ) → (s ≡ false) ⊎ (k ≡ 0) → k * up e ≤ 2 ^ 21 * down e → (n : ℕ) × (ceil_of (div binary32 (fin s k e) (fin false l g)) ≡ Ok (pos n))
     at false k e c h = lifted (div binary32 (fin false k e) (fin false l g)) (plain_size k e l g some h least)
     at true k e (inl f) h = absurd (true≢false f)
     at true k e (inr z) h =
-        subst (λ (i : ℕ). (n : ℕ) × (ceil_of (div binary32 (fin true i e) (fin false l g)) ≡ Of (pos n))) (sym z)
-        (subst (λ (x : Float). (n : ℕ) × (ceil_of x ≡ Of (pos n))) (sym (div_none e l g some)) none_lifted)
+        subst (λ (i : ℕ). (n : ℕ) × (ceil_of (div binary32 (fin true i e) (fin false l g)) ≡ Ok (pos n))) (sym z)
+        (subst (λ (x : Float). (n : ℕ) × (ceil_of x ≡ Ok (pos n))) (sym (div_none e l g some)) none_lifted)

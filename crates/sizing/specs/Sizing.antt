@@ -1,31 +1,21 @@
 -- 01, Sizing and placement, of the list of the points' numbers, three to a point. Each operation on floats is IEEE 754's on an f32, rounded once, in the order given. Definitions only.
-use Rattle.std.specs.Prelude.{ℕ, zero, suc, ◌+◌, ◌-◌, ◌*◌, ◌/◌, ◌^◌, ◌≤◌, ◌<◌, Bool, true, false, not, cond, ◌&&◌, ◌||◌, ◌≡◌, List, length, get_or, leb, ltb, eqb, pos, negsuc, Float}
+use Rattle.std.specs.Prelude.{ℕ, zero, suc, ◌+◌, ◌-◌, ◌*◌, ◌/◌, ◌^◌, ◌≤◌, ◌<◌, Bool, true, false, not, cond, ◌&&◌, ◌||◌, ◌≡◌, List, length, get_or, leb, ltb, eqb, pos, negsuc, Float, Ok, Err}
 use Rattle.std.specs.Float.{nan, fin, binary32}
 use Rattle.std.specs.Float.Ieee.{lt, le, sub, mul, div, of_int}
-use Rattle.numbers.specs.declared.Whole.{Whole}
-use Rattle.numbers.specs.declared.Whole.TheVariants.{Of, TooLarge, NotANumber}
+use Rattle.numbers.specs.Rounding.{Whole}
 use Rattle.numbers.specs.Rounding.{ceil_of, trunc_of}
 use Rattle.grid.specs.declared.Axes.{Axes}
 use Rattle.grid.specs.declared.Placement.{Placement}
-use Rattle.grid.specs.declared.Checked.{Checked}
-use Rattle.grid.specs.declared.Checked.TheVariants.{Fine}
-use Rattle.grid.specs.Answers.{Outcome, answers, refuses, fault_if, ◌and_then◌, unless}
+use Rattle.grid.specs.Answers.{Outcome, fault_if, ◌and_then◌, Checked}
 use Rattle.grid.specs.Checks.{axes_fault}
-use Rattle.grid.specs.Refusals.{BAD_SIZE, BAD_RESOLUTION, NO_EXTENT}
 use Rattle.sizing.specs.declared.Point.{Point}
 pub use Rattle.grid.specs.declared.Laid.{Laid}
 use Rattle.sizing.specs.declared.Span.{Span}
 use Rattle.sizing.specs.declared.Spans.{Spans}
-use Rattle.sizing.specs.declared.Sized.{Sized}
-use Rattle.sizing.specs.declared.Sized.TheVariants.{Grid, Refused}
 use Rattle.sizing.specs.Points.{points_fault}
+use Rattle.grid.specs.declared.Reason.TheVariants.{BadSize, BadResolution, NoExtent}
 
 -- ---- the answer
-
--- 01's number and values for each case of `Sized`
-abbrev pub outcome : Sized → Outcome Laid
-outcome (Grid a p) = answers (record { axes = a; placement = p })
-outcome (Refused f) = refuses f.number f.place
 
 -- ---- the points
 
@@ -100,17 +90,16 @@ greatest_size = fin false 1 (pos 20)
 
 -- "5: cell size not within 2^-10 to 2^20, ends included"
 abbrev pub size_fault : Float → Checked
-size_fault size = fault_if (not (le least_size size && le size greatest_size)) BAD_SIZE 0 Fine
+size_fault size = fault_if (not (le least_size size && le size greatest_size)) BadSize 0 (Ok tt)
 
 abbrev pub larger : ℕ → ℕ → ℕ
 larger a b = cond (leb a b) b a
 
 -- a rounded quotient as a count. After the checks it is a whole number not below 0 (`size_counts`, `resolution_counts` in proofs/Ranges.antt); for the rest, one below 0 is 0, as the crate's cast has it, and one that is too large, or none, is more than any axis has
 unfoldable pub natural : Whole → ℕ
-natural (Of (pos n)) = n
-natural (Of (negsuc n)) = 0
-natural TooLarge = 257
-natural NotANumber = 257
+natural (Ok (pos n)) = n
+natural (Ok (negsuc n)) = 0
+natural (Err e) = 257
 
 -- the same as a promise: the count, which leaves room for two more
 pub record CountsAs (w : Whole) (r : ℕ) : Type 0 where
@@ -125,20 +114,20 @@ size_axes s size = record { r0 = axis_by_size s.x size; r1 = axis_by_size s.y si
 
 -- a grid of these axes at this place, if no axis is at fault
 abbrev pub grid_of : Axes → Placement → Outcome Laid
-grid_of a p = unless (axes_fault a) (answers (record { axes = a; placement = p }))
+grid_of a p = axes_fault a and_then Ok (record { axes = a; placement = p })
 
 abbrev pub size_grid : Spans → Float → Outcome Laid
 size_grid s size = grid_of (size_axes s size) (placed_at s size)
 
 -- the whole call: 1, 2, 3, 5, 8
 abbrev pub by_size : List Float → Float → Outcome Laid
-by_size ps size = unless (points_fault ps and_then size_fault size) (size_grid (spans_of ps) size)
+by_size ps size = (points_fault ps and_then size_fault size) and_then size_grid (spans_of ps) size
 
 -- ---- "By resolution R, with extents d"
 
 -- "6: resolution under 2 or over 254"
 abbrev pub resolution_fault : ℕ → Checked
-resolution_fault r = fault_if (ltb r 2 || ltb 254 r) BAD_RESOLUTION 0 Fine
+resolution_fault r = fault_if (ltb r 2 || ltb 254 r) BadResolution 0 (Ok tt)
 
 abbrev pub tops : Float → Float → Float → Bool
 tops a b c = le b a && le c a
@@ -156,7 +145,7 @@ abbrev pub least_extent : Float
 least_extent = fin false 1 (negsuc 9)
 
 abbrev pub extent_fault : Float → Checked
-extent_fault dmain = fault_if (lt dmain least_extent) NO_EXTENT 0 Fine
+extent_fault dmain = fault_if (lt dmain least_extent) NoExtent 0 (Ok tt)
 
 -- a count as an f32
 abbrev pub as_float : ℕ → Float
@@ -186,8 +175,8 @@ abbrev pub resolution_scale : Spans → ℕ → Float
 resolution_scale s r = div binary32 (dmain_of s) (as_float (r - 1))
 
 abbrev pub resolution_grid : Spans → ℕ → Outcome Laid
-resolution_grid s r = unless (extent_fault (dmain_of s)) (grid_of (resolution_axes s r) (placed_at s (resolution_scale s r)))
+resolution_grid s r = extent_fault (dmain_of s) and_then grid_of (resolution_axes s r) (placed_at s (resolution_scale s r))
 
 -- the whole call: 1, 2, 3, 6, 7; and 8, which proofs/Ranges.antt shows never to happen
 abbrev pub by_resolution : List Float → ℕ → Outcome Laid
-by_resolution ps r = unless (points_fault ps and_then resolution_fault r) (resolution_grid (spans_of ps) r)
+by_resolution ps r = (points_fault ps and_then resolution_fault r) and_then resolution_grid (spans_of ps) r

@@ -2,19 +2,12 @@
 #![tactic(auto)]
 
 ghost use Rattle.std.specs.Prelude.{◌≡◌, ◌+◌, ◌*◌, ◌≤◌, ◌<◌, length};
-ghost use Rattle.sizing.specs.Sizing.{outcome, lower, upper, point_at, spans_at, span_with, spans_with, spans_of, placed_at, size_fault, CountsAs, axis_by_size, grid_of, size_grid, by_size, resolution_fault, tops, main_axis, extent_at, as_float, axis_by_resolution, resolution_grid, by_resolution};
+ghost use Rattle.sizing.specs.Sizing.{lower, upper, point_at, spans_at, span_with, spans_with, spans_of, placed_at, size_fault, CountsAs, axis_by_size, grid_of, size_grid, by_size, resolution_fault, tops, main_axis, extent_at, as_float, axis_by_resolution, resolution_grid, by_resolution};
 
-use grid::{Axes, Checked, Placement, Refusal};
-use numbers::Whole;
+use grid::{Axes, Laid, Placement, Reason, Refusal};
+use numbers::NoWhole;
 
-// What sizing answers.
-#[derive(Clone, Copy)]
-pub enum Sized {
-    Grid(Axes, Placement),
-    Refused(Refusal),
-}
-
-#[derive(Clone, Copy)]
+#[derive(Clone, Copy, Debug, PartialEq)]
 pub struct Point {
     pub x: f32,
     pub y: f32,
@@ -22,14 +15,14 @@ pub struct Point {
 }
 
 // The smallest and the greatest of some numbers.
-#[derive(Clone, Copy)]
+#[derive(Clone, Copy, Debug, PartialEq)]
 pub struct Span {
     pub lo: f32,
     pub hi: f32,
 }
 
 // The spans of the points' three coordinates.
-#[derive(Clone, Copy)]
+#[derive(Clone, Copy, Debug, PartialEq)]
 pub struct Spans {
     pub x: Span,
     pub y: Span,
@@ -94,11 +87,8 @@ fn spans_of(ps: &[f32]) -> Spans
     requires { 3 ≤ length ps.now }
     ensures { result ≡ spans_of ps.now }
 {
-    let n = ps.len() / 3;
     let mut s = single(point_at(ps, 0));
-    let mut i = 0usize;
-    while i + 1 < n {
-        i += 1;
+    for i in 1..ps.len() / 3 {
         s = widened_by(s, point_at(ps, i));
     }
     s
@@ -116,42 +106,42 @@ fn placed(s: Spans, scale: f32) -> Placement
     }
 }
 
+// More than any axis has.
+const TOO_MANY: usize = grid::AXIS_MOST + 1;
+
 // A rounded quotient as a count of cells; one that is too large, or none, is more than any axis has.
-fn cells_of(w: Whole) -> usize
+fn cells_of(w: Result<i64, NoWhole>) -> usize
     ensures { CountsAs w result }
 {
     match w {
-        Whole::Of(n) => {
+        Ok(n) => {
             if n < 0 {
                 return 0;
             }
             n as usize
         }
-        Whole::TooLarge => 257,
-        Whole::NotANumber => 257,
+        Err(_) => TOO_MANY,
     }
 }
 
 // The grid of these axes at this place, or refusal 8.
-fn graded(a: Axes, p: Placement) -> Sized
-    ensures { outcome result ≡ grid_of a p }
+fn graded(axes: Axes, placement: Placement) -> Result<Laid, Refusal>
+    ensures { result ≡ grid_of axes placement }
 {
-    match grid::axes_fault(a) {
-        Checked::Fault(f) => Sized::Refused(f),
-        Checked::Fine => Sized::Grid(a, p),
-    }
+    grid::axes_fault(axes)?;
+    Ok(Laid { axes, placement })
 }
 
 // ---- by cell size
 
 // Refusal 5 of a cell size.
-fn size_fault(size: f32) -> Checked
+fn size_fault(size: f32) -> Result<(), Refusal>
     ensures { result ≡ size_fault size }
 {
     if (0.0009765625 <= size) & (size <= 1048576.0) {
-        return Checked::Fine;
+        return Ok(());
     }
-    grid::fault(grid::BAD_SIZE, 0)
+    Err(Reason::BadSize.at(0))
 }
 
 fn axis_by_size(s: Span, size: f32) -> usize
@@ -164,8 +154,8 @@ fn axis_by_size(s: Span, size: f32) -> usize
     n + 1
 }
 
-fn size_grid(s: Spans, size: f32) -> Sized
-    ensures { outcome result ≡ size_grid s size }
+fn size_grid(s: Spans, size: f32) -> Result<Laid, Refusal>
+    ensures { result ≡ size_grid s size }
 {
     let r0 = axis_by_size(s.x, size);
     let r1 = axis_by_size(s.y, size);
@@ -174,25 +164,24 @@ fn size_grid(s: Spans, size: f32) -> Sized
 }
 
 // The grid over the points with cells of this size.
-pub fn by_size(points: &[f32], size: f32) -> Sized
-    ensures { outcome result ≡ by_size points.now size }
+pub fn by_size(points: &[f32], size: f32) -> Result<Laid, Refusal>
+    ensures { result ≡ by_size points.now size }
 {
-    match grid::and_then(sizing_points::points_fault(points), size_fault(size)) {
-        Checked::Fault(f) => Sized::Refused(f),
-        Checked::Fine => size_grid(spans_of(points), size),
-    }
+    sizing_points::points_fault(points)?;
+    size_fault(size)?;
+    size_grid(spans_of(points), size)
 }
 
 // ---- by resolution
 
 // Refusal 6 of a resolution.
-fn resolution_fault(resolution: u32) -> Checked
+fn resolution_fault(resolution: u32) -> Result<(), Refusal>
     ensures { result ≡ resolution_fault resolution }
 {
     if (resolution < 2) | (254 < resolution) {
-        return grid::fault(grid::BAD_RESOLUTION, 0);
+        return Err(Reason::BadResolution.at(0));
     }
-    Checked::Fine
+    Ok(())
 }
 
 // Whether a is at least b and at least c.
@@ -246,9 +235,9 @@ fn axis_by_resolution(resolution: u32, m: u8, a: u8, d: f32, dmain: f32) -> usiz
     2 + cells_of(numbers::trunc(as_float(resolution) * d / dmain))
 }
 
-fn resolution_grid(s: Spans, resolution: u32) -> Sized
+fn resolution_grid(s: Spans, resolution: u32) -> Result<Laid, Refusal>
     requires { (2 ≤ resolution) × (resolution ≤ 254) }
-    ensures { outcome result ≡ resolution_grid s resolution }
+    ensures { result ≡ resolution_grid s resolution }
 {
     let dx = s.x.hi - s.x.lo;
     let dy = s.y.hi - s.y.lo;
@@ -256,10 +245,7 @@ fn resolution_grid(s: Spans, resolution: u32) -> Sized
     let m = main_axis(dx, dy, dz);
     let dmain = extent_at(m, dx, dy, dz);
     if dmain < 0.0009765625 {
-        return Sized::Refused(Refusal {
-            number: grid::NO_EXTENT,
-            place: 0,
-        });
+        return Err(Reason::NoExtent.at(0));
     }
     let r0 = axis_by_resolution(resolution, m, 0, dx, dmain);
     let r1 = axis_by_resolution(resolution, m, 1, dy, dmain);
@@ -271,14 +257,10 @@ fn resolution_grid(s: Spans, resolution: u32) -> Sized
 }
 
 // The grid over the points whose main axis has so many cells.
-pub fn by_resolution(points: &[f32], resolution: u32) -> Sized
-    ensures { outcome result ≡ by_resolution points.now resolution }
+pub fn by_resolution(points: &[f32], resolution: u32) -> Result<Laid, Refusal>
+    ensures { result ≡ by_resolution points.now resolution }
 {
-    match grid::and_then(
-        sizing_points::points_fault(points),
-        resolution_fault(resolution),
-    ) {
-        Checked::Fault(f) => Sized::Refused(f),
-        Checked::Fine => resolution_grid(spans_of(points), resolution),
-    }
+    sizing_points::points_fault(points)?;
+    resolution_fault(resolution)?;
+    resolution_grid(spans_of(points), resolution)
 }

@@ -5,7 +5,7 @@ ghost use Rattle.std.specs.Prelude.{◌≡◌};
 ghost use Rattle.grid.specs.First.{first_not, every};
 ghost use Rattle.sizing_points.specs.Points.{bounded, length_fault, none_fault, numbers_fault, points_fault};
 
-use grid::Checked;
+use grid::{Reason, Refusal};
 
 // At most 2 ^ 20 in magnitude; a NaN is not.
 fn in_bounds(x: f32) -> bool
@@ -19,10 +19,8 @@ fn all_in_bounds(ps: &[f32]) -> bool
     ensures { result ≡ every (bounded 20) ps.now }
 {
     let mut all = true;
-    let mut i = 0usize;
-    while i < ps.len() {
-        all = all & in_bounds(ps[i]);
-        i += 1;
+    for x in ps {
+        all &= in_bounds(*x);
     }
     all
 }
@@ -31,53 +29,49 @@ fn all_in_bounds(ps: &[f32]) -> bool
 fn first_out(ps: &[f32]) -> usize
     ensures { result ≡ first_not (bounded 20) ps.now }
 {
-    let mut i = 0usize;
-    while i < ps.len() {
-        if in_bounds(ps[i]) {
-            i += 1;
-        } else {
+    for (i, x) in ps.iter().enumerate() {
+        if !in_bounds(*x) {
             return i;
         }
     }
-    i
+    ps.len()
 }
 
 // Refusal 3 of points whose numbers are counted after `before` others.
-pub fn numbers_fault(ps: &[f32], before: u8) -> Checked
+pub fn numbers_fault(ps: &[f32], before: u8) -> Result<(), Refusal>
     ensures { result ≡ numbers_fault before ps.now }
 {
     if all_in_bounds(ps) {
-        return Checked::Fine;
+        return Ok(());
     }
-    grid::fault(grid::BAD_NUMBER, before as usize + first_out(ps))
+    Err(Reason::BadNumber.at(before as usize + first_out(ps)))
 }
 
 // Refusal 1 of the length of a list of points or triangles.
-pub fn length_fault(n: usize) -> Checked
+pub fn length_fault(n: usize) -> Result<(), Refusal>
     ensures { result ≡ length_fault n }
 {
     if (n % 3 != 0) | (65536 < n / 3) {
-        return grid::fault(grid::BAD_COUNT, 0);
+        return Err(Reason::BadCount.at(0));
     }
-    Checked::Fine
+    Ok(())
 }
 
 // Refusal 2 of the length of a list of points.
-pub fn none_fault(n: usize) -> Checked
+pub fn none_fault(n: usize) -> Result<(), Refusal>
     ensures { result ≡ none_fault n }
 {
     if n == 0 {
-        return grid::fault(grid::NO_POINTS, 0);
+        return Err(Reason::NoPoints.at(0));
     }
-    Checked::Fine
+    Ok(())
 }
 
 // Refusals 1, 2 and 3 of a list of points.
-pub fn points_fault(ps: &[f32]) -> Checked
+pub fn points_fault(ps: &[f32]) -> Result<(), Refusal>
     ensures { result ≡ points_fault ps.now }
 {
-    let lengths = length_fault(ps.len());
-    let none = none_fault(ps.len());
-    let numbers = numbers_fault(ps, 0);
-    grid::and_then(lengths, grid::and_then(none, numbers))
+    length_fault(ps.len())?;
+    none_fault(ps.len())?;
+    numbers_fault(ps, 0)
 }

@@ -6,22 +6,21 @@
 
 ghost use Rattle.std.specs.Prelude.{◌≡◌, ◌+◌, ◌*◌, ◌≤◌, length};
 
-use boxes::Boxing;
-use grid::{Axes, Placement};
+use grid::{Axes, Placement, Refusal};
 use test_replay::Row;
 
-fn show(b: Boxing, points: &[f32], triangles: &[u32]) {
+fn show(b: Result<usize, Refusal>, points: &[f32], triangles: &[u32]) {
     match b {
-        Boxing::Boxed(n) => {
+        Ok(n) => {
             test_replay::text(b"boxed ");
             test_replay::number(n as u64);
-            test_replay::show_floats(points, 24 * test_replay::at_most(n, 196620));
-            test_replay::show_words(triangles, 36 * test_replay::at_most(n, 196620));
+            test_replay::show(points, 24 * n.min(196620));
+            test_replay::show(triangles, 36 * n.min(196620));
         }
-        Boxing::Refused(f) => test_replay::refused(f),
+        Err(f) => test_replay::refused(f),
     }
-    test_replay::number(test_replay::sum_floats(points));
-    test_replay::line(test_replay::sum_words(triangles));
+    test_replay::number(test_replay::sum(0, points));
+    test_replay::line(test_replay::sum(0, triangles));
 }
 
 fn box_and_report(
@@ -39,8 +38,8 @@ fn box_and_report(
 fn with_outputs(labels: &[u8], r: Axes, at: Placement, label: u8, n: usize, m: usize)
     requires { (n ≤ 196620) × (m ≤ 196620) }
 {
-    let mut points = test_replay::blank_floats(n);
-    let mut triangles = test_replay::blank_words(m);
+    let mut points: [f32; 196620] = test_replay::blank(n);
+    let mut triangles: [u32; 196620] = test_replay::blank(m);
     box_and_report(labels, r, at, label, &mut points[..n], &mut triangles[..m]);
 }
 
@@ -51,9 +50,9 @@ fn box_case(s: &[u8], at: usize, row: Row)
     let r = test_replay::axes_of(s, at);
     let place = test_replay::placement_of(s, at + 12);
     let label = (program_words::word(s, at + 32) % 256) as u8;
-    let n = test_replay::at_most(program_words::word(s, at + 52) as usize, 196620);
-    let m = test_replay::at_most(program_words::word(s, at + 56) as usize, 196620);
-    let cells = test_replay::at_most(row.length, 65536);
+    let n = (program_words::word(s, at + 52) as usize).min(196620);
+    let m = (program_words::word(s, at + 56) as usize).min(196620);
+    let cells = row.length.min(65536);
     with_outputs(&labels[..cells], r, place, label, n, m);
 }
 
@@ -71,17 +70,8 @@ fn one_case(s: &[u8], at: usize) -> usize
     next
 }
 
-fn all_cases(s: &[u8])
-    requires { length s.now ≤ 262144 }
-{
-    let mut at = 0usize;
-    while at + 60 <= s.len() {
-        at = one_case(s, at);
-    }
-}
-
 fn main() {
     let mut buffer = test_replay::input();
     let n = io::read_full(0, &mut buffer);
-    all_cases(&buffer[..n]);
+    test_replay::each_case(&buffer[..n], 60, one_case);
 }

@@ -9,9 +9,8 @@
 
 ghost use Rattle.std.specs.Prelude.{◌<◌};
 
-use edits::Editing;
 use fill::Mode;
-use grid::{Axes, Cell, Checked, Refusal};
+use grid::{Axes, Cell, Reason, Refusal};
 
 #[derive(Clone, Copy)]
 enum Family {
@@ -41,7 +40,7 @@ struct EditOutcome {
     wrong: u64,
 }
 
-#[derive(Clone, Copy)]
+#[derive(Clone, Copy, Default)]
 struct Tally {
     calls: u64,
     opened: u64,
@@ -55,23 +54,22 @@ struct Tally {
 
 // A random number below n, or 0 if n is 0; x is the last one drawn.
 fn below(x: &mut u64, n: usize) -> usize {
-    let y = test_replay::drawn(*x);
-    *x = y;
+    *x = test_replay::drawn(*x);
     if n == 0 {
         return 0;
     }
-    (y / 65536) as usize % n
+    (*x / 65536) as usize % n
 }
 
 // ---- labels and cells
 
 fn label_at(labels: &[u8], n: usize) -> u8 {
-    if n < labels.len() { labels[n] } else { 0 }
+    labels.get(n).copied().unwrap_or(0)
 }
 
 fn put(labels: &mut [u8], n: usize, label: u8) {
-    if n < labels.len() {
-        labels[n] = label;
+    if let Some(place) = labels.get_mut(n) {
+        *place = label;
     }
 }
 
@@ -89,10 +87,7 @@ fn number_of(r: Axes, c: Cell) -> usize {
 fn cell_of(r: Axes, n: usize) -> Cell {
     let row = r.r0;
     let rows = r.r1;
-    if row == 0 {
-        return Cell { i: 0, j: 0, k: 0 };
-    }
-    if rows == 0 {
+    if (row == 0) | (rows == 0) {
         return Cell { i: 0, j: 0, k: 0 };
     }
     let m = n / row;
@@ -107,27 +102,18 @@ fn label_of(labels: &[u8], r: Axes, c: Cell) -> u8 {
     label_at(labels, number_of(r, c))
 }
 
+// As many labels as both have.
 fn copy(from: &[u8], to: &mut [u8]) {
-    let n = from.len();
-    let mut i = 0usize;
-    while i < n {
-        put(to, i, label_at(from, i));
-        i += 1;
+    for (place, label) in to.iter_mut().zip(from) {
+        *place = *label;
     }
-}
-
-fn one_if(b: bool) -> u64 {
-    if b { 1 } else { 0 }
 }
 
 // How many labels of a are others in b.
 fn differing(a: &[u8], b: &[u8]) -> u64 {
-    let n = a.len();
     let mut d = 0u64;
-    let mut i = 0usize;
-    while i < n {
-        d = std::num::wrapping_add_u64(d, one_if(label_at(a, i) != label_at(b, i)));
-        i += 1;
+    for (i, label) in a.iter().enumerate() {
+        d = d.wrapping_add(u64::from(*label != label_at(b, i)));
     }
     d
 }
@@ -153,62 +139,47 @@ fn axis(f: Family, x: &mut u64) -> usize {
 
 // About so many tenths of the cells are surface.
 fn random_marks(labels: &mut [u8], n: usize, x: &mut u64, tenths: usize) {
-    let mut i = 0usize;
-    while i < n {
-        let v = test_replay::label_if(below(x, 10) < tenths);
-        put(labels, i, v);
-        i += 1;
+    for i in 0..n {
+        put(labels, i, test_replay::label_if(below(x, 10) < tenths));
     }
 }
 
 // How far i is from the nearer end of an axis.
 fn to_end(i: usize, n: usize) -> usize {
-    if i < n {
-        return test_replay::at_most(i, n - 1 - i);
-    }
-    0
+    if i < n { i.min(n - 1 - i) } else { 0 }
 }
 
 // How many cells a cell lies below the border; 0 off the grid.
 fn depth(r: Axes, c: Cell) -> usize {
-    let flat = test_replay::at_most(to_end(c.i, r.r0), to_end(c.j, r.r1));
-    test_replay::at_most(flat, to_end(c.k, r.r2))
+    to_end(c.i, r.r0)
+        .min(to_end(c.j, r.r1))
+        .min(to_end(c.k, r.r2))
 }
 
 // Boxes in boxes, a wall at every third depth; of 512 wall cells 0, 1 or 2 are missing.
 fn shell_marks(labels: &mut [u8], n: usize, r: Axes, x: &mut u64, some: usize) {
-    let mut i = 0usize;
-    while i < n {
+    for i in 0..n {
         let there = some / 3 % 3 <= below(x, 512);
         let wall = depth(r, cell_of(r, i)) % 3 == some % 3;
         put(labels, i, test_replay::label_if(there & wall));
-        i += 1;
     }
 }
 
 // The face neighbour in one of six ways; below 0 it is far off the grid.
 fn beside(c: Cell, way: usize) -> Cell {
-    let Cell { i, j, k } = c;
-    let one = if way % 2 == 0 {
-        1
-    } else {
-        18446744073709551615
-    };
+    let one = if way % 2 == 0 { 1 } else { usize::MAX };
     match way / 2 {
         0 => Cell {
-            i: std::num::wrapping_add_usize(i, one),
-            j,
-            k,
+            i: c.i.wrapping_add(one),
+            ..c
         },
         1 => Cell {
-            i,
-            j: std::num::wrapping_add_usize(j, one),
-            k,
+            j: c.j.wrapping_add(one),
+            ..c
         },
         _ => Cell {
-            i,
-            j,
-            k: std::num::wrapping_add_usize(k, one),
+            k: c.k.wrapping_add(one),
+            ..c
         },
     }
 }
@@ -236,10 +207,8 @@ fn walked(labels: &mut [u8], r: Axes, c: Cell, x: &mut u64) -> Cell {
 fn corridor_marks(labels: &mut [u8], n: usize, r: Axes, x: &mut u64, steps: usize) {
     random_marks(labels, n, x, 10);
     let mut c = Cell { i: 1, j: 1, k: 1 };
-    let mut i = 0usize;
-    while i < steps {
+    for _ in 0..steps {
         c = walked(labels, r, c, x);
-        i += 1;
     }
 }
 
@@ -254,66 +223,57 @@ fn make_marks(labels: &mut [u8], n: usize, f: Family, r: Axes, x: &mut u64) {
 }
 
 fn flood(labels: &mut [u8], n: usize, r: Axes) {
-    let len = test_replay::at_most(n, labels.len());
-    fill::fill(&mut labels[..len], r, Mode::Flood);
+    let len = n.min(labels.len());
+    let _ = fill::fill(&mut labels[..len], r, Mode::Flood);
 }
 
 // ---- what a call should do
 
 // The place of the first label that no edit takes, or the length.
 fn first_bad(labels: &[u8]) -> usize {
-    let n = labels.len();
-    let mut i = 0usize;
-    while i < n {
-        let label = label_at(labels, i);
-        if (label < grid::OUTSIDE) | (grid::SURFACE < label) {
+    for (i, label) in labels.iter().enumerate() {
+        if (*label < grid::OUTSIDE) | (grid::SURFACE < *label) {
             return i;
         }
-        i += 1;
     }
-    n
+    labels.len()
 }
 
-fn cell_rule(labels: &[u8], r: Axes, c: Cell, opening: bool) -> Checked {
+fn cell_rule(labels: &[u8], r: Axes, c: Cell, opening: bool) -> Result<(), Refusal> {
     if (r.r0 <= c.i) | (r.r1 <= c.j) | (r.r2 <= c.k) {
-        return grid::fault(grid::OUT_OF_RANGE, 0);
+        return Err(Reason::OutOfRange.at(0));
     }
     if (label_of(labels, r, c) == grid::SURFACE) != opening {
-        return grid::fault(grid::WRONG_KIND, 0);
+        return Err(Reason::WrongKind.at(0));
     }
-    Checked::Fine
+    Ok(())
 }
 
 // The refusal that a call should get.
-fn rule(labels: &[u8], r: Axes, c: Cell, opening: bool) -> Checked {
+fn rule(labels: &[u8], r: Axes, c: Cell, opening: bool) -> Result<(), Refusal> {
     if (r.r0 == 0) | (256 < r.r0) {
-        return grid::fault(grid::BAD_AXIS, 0);
+        return Err(Reason::BadAxis.at(0));
     }
     if (r.r1 == 0) | (256 < r.r1) {
-        return grid::fault(grid::BAD_AXIS, 1);
+        return Err(Reason::BadAxis.at(1));
     }
     if (r.r2 == 0) | (256 < r.r2) {
-        return grid::fault(grid::BAD_AXIS, 2);
+        return Err(Reason::BadAxis.at(2));
     }
     if labels.len() != times(times(r.r0, r.r1), r.r2) {
-        return grid::fault(grid::BAD_BUFFER, 0);
+        return Err(Reason::BadBuffer.at(0));
     }
     let bad = first_bad(labels);
     if bad != labels.len() {
-        return grid::fault(grid::BAD_LABEL, bad);
+        return Err(Reason::BadLabel.at(bad));
     }
     cell_rule(labels, r, c, opening)
 }
 
 fn surface_of(before: &[u8], map: &mut [u8], n: usize) {
-    let mut i = 0usize;
-    while i < n {
-        put(
-            map,
-            i,
-            test_replay::label_if(label_at(before, i) == grid::SURFACE),
-        );
-        i += 1;
+    for i in 0..n {
+        let wall = label_at(before, i) == grid::SURFACE;
+        put(map, i, test_replay::label_if(wall));
     }
 }
 
@@ -330,44 +290,37 @@ fn fresh(map: &mut [u8], before: &[u8], n: usize, r: Axes, call: AskedEdit) {
 
 // ---- a call, and what it did
 
-fn edit(labels: &mut [u8], r: Axes, c: Cell, opening: bool) -> Editing {
+fn edit(labels: &mut [u8], r: Axes, c: Cell, opening: bool) -> Result<usize, Refusal> {
     if opening {
         return edits::open_cell(labels, r, c);
     }
     edits::close_cell(labels, r, c)
 }
 
-fn is_other(a: Editing, b: Editing) -> bool {
-    match a {
-        Editing::Changed(n) => match b {
-            Editing::Changed(m) => n != m,
-            Editing::Refused(_) => true,
-        },
-        Editing::Refused(f) => match b {
-            Editing::Changed(_) => true,
-            Editing::Refused(g) => (f.number != g.number) | (f.place != g.place),
-        },
-    }
-}
-
-fn kept(labels: &[u8], before: &[u8], f: Refusal, answer: Editing) -> EditOutcome {
-    let other = is_other(answer, Editing::Refused(f));
+fn kept(labels: &[u8], before: &[u8], f: Refusal, answer: Result<usize, Refusal>) -> EditOutcome {
+    let other = answer != Err(f);
     EditOutcome {
         done: false,
         changed: 0,
-        wrong: std::num::wrapping_add_u64(differing(labels, before), one_if(other)),
+        wrong: differing(labels, before).wrapping_add(u64::from(other)),
     }
 }
 
-fn done(labels: &[u8], before: &[u8], r: Axes, call: AskedEdit, answer: Editing) -> EditOutcome {
+fn done(
+    labels: &[u8],
+    before: &[u8],
+    r: Axes,
+    call: AskedEdit,
+    answer: Result<usize, Refusal>,
+) -> EditOutcome {
     let mut map = [0u8; 4096];
     fresh(&mut map, before, labels.len(), r, call);
     let changed = differing(labels, before);
-    let other = is_other(answer, Editing::Changed(changed as usize));
+    let other = answer != Ok(changed as usize);
     EditOutcome {
         done: true,
         changed,
-        wrong: std::num::wrapping_add_u64(differing(labels, &map), one_if(other)),
+        wrong: differing(labels, &map).wrapping_add(u64::from(other)),
     }
 }
 
@@ -377,8 +330,8 @@ fn compared(labels: &mut [u8], r: Axes, call: AskedEdit) -> EditOutcome {
     let ruled = rule(labels, r, call.cell, call.opening);
     let answer = edit(labels, r, call.cell, call.opening);
     match ruled {
-        Checked::Fault(f) => kept(labels, &before, f, answer),
-        Checked::Fine => done(labels, &before, r, call, answer),
+        Err(f) => kept(labels, &before, f, answer),
+        Ok(()) => done(labels, &before, r, call, answer),
     }
 }
 
@@ -392,28 +345,22 @@ fn some_cell(r: Axes, x: &mut u64) -> Cell {
 }
 
 fn off_grid(r: Axes, x: &mut u64) -> Cell {
-    let Cell { i, j, k } = some_cell(r, x);
+    let c = some_cell(r, x);
     match below(x, 4) {
-        0 => Cell { i: r.r0, j, k },
-        1 => Cell { i, j: r.r1, k },
-        2 => Cell { i, j, k: r.r2 },
-        _ => Cell {
-            i,
-            j,
-            k: 18446744073709551615,
-        },
+        0 => Cell { i: r.r0, ..c },
+        1 => Cell { j: r.r1, ..c },
+        2 => Cell { k: r.r2, ..c },
+        _ => Cell { k: usize::MAX, ..c },
     }
 }
 
 // A cell that the call takes, if a few draws find one.
 fn likely_cell(labels: &[u8], r: Axes, opening: bool, x: &mut u64) -> Cell {
-    let mut tries = 0usize;
-    while tries < 20 {
+    for _ in 0..20 {
         let c = some_cell(r, x);
         if (label_of(labels, r, c) == grid::SURFACE) == opening {
             return c;
         }
-        tries += 1;
     }
     some_cell(r, x)
 }
@@ -451,21 +398,9 @@ fn faulty_axes(fault: bool, r: Axes, x: &mut u64) -> Axes {
         return r;
     }
     match way / 2 {
-        0 => Axes {
-            r0: bad,
-            r1: r.r1,
-            r2: r.r2,
-        },
-        1 => Axes {
-            r0: r.r0,
-            r1: bad,
-            r2: r.r2,
-        },
-        _ => Axes {
-            r0: r.r0,
-            r1: r.r1,
-            r2: bad,
-        },
+        0 => Axes { r0: bad, ..r },
+        1 => Axes { r1: bad, ..r },
+        _ => Axes { r2: bad, ..r },
     }
 }
 
@@ -473,13 +408,13 @@ fn faulty_axes(fault: bool, r: Axes, x: &mut u64) -> Axes {
 fn faulty_length(fault: bool, n: usize, x: &mut u64) -> usize {
     let twice = below(x, 2) % 2 * 2;
     if fault {
-        return std::num::wrapping_sub_usize(std::num::wrapping_add_usize(n, twice), 1);
+        return n.wrapping_add(twice).wrapping_sub(1);
     }
     n
 }
 
 fn cut(labels: &mut [u8], n: usize, r: Axes, call: AskedEdit) -> EditOutcome {
-    let len = test_replay::at_most(n, labels.len());
+    let len = n.min(labels.len());
     compared(&mut labels[..len], r, call)
 }
 
@@ -525,25 +460,23 @@ fn one_call(labels: &mut [u8], n: usize, r: Axes, call: AskedEdit, x: &mut u64) 
 
 fn add(t: Tally, opening: bool, o: EditOutcome) -> Tally {
     Tally {
-        calls: std::num::wrapping_add_u64(t.calls, 1),
-        opened: std::num::wrapping_add_u64(t.opened, one_if(o.done & opening)),
-        closed: std::num::wrapping_add_u64(t.closed, one_if(o.done & !opening)),
-        refused: std::num::wrapping_add_u64(t.refused, one_if(!o.done)),
-        changed: std::num::wrapping_add_u64(t.changed, o.changed),
-        differ: std::num::wrapping_add_u64(t.differ, o.wrong),
+        calls: t.calls.wrapping_add(1),
+        opened: t.opened.wrapping_add(u64::from(o.done & opening)),
+        closed: t.closed.wrapping_add(u64::from(o.done & !opening)),
+        refused: t.refused.wrapping_add(u64::from(!o.done)),
+        changed: t.changed.wrapping_add(o.changed),
+        differ: t.differ.wrapping_add(o.wrong),
     }
 }
 
 fn all_calls(t: Tally, labels: &mut [u8], n: usize, r: Axes, x: &mut u64, calls: usize) -> Tally {
     let mut u = t;
     let mut last = Cell { i: 0, j: 0, k: 0 };
-    let mut i = 0usize;
-    while i < calls {
+    for _ in 0..calls {
         let call = some_call(labels, r, last, x);
         let o = one_call(labels, n, r, call, x);
         u = add(u, call.opening, o);
         last = call.cell;
-        i += 1;
     }
     u
 }
@@ -553,26 +486,17 @@ fn one_map(t: Tally, labels: &mut [u8], f: Family, x: &mut u64, calls: usize) ->
     let r1 = axis(f, x);
     let r2 = axis(f, x);
     let r = Axes { r0, r1, r2 };
-    let n = test_replay::at_most(times(times(r0, r1), r2), labels.len());
+    let n = times(times(r0, r1), r2).min(labels.len());
     make_marks(labels, n, f, r, x);
     flood(labels, n, r);
     all_calls(t, labels, n, r, x, calls)
 }
 
 fn all_maps(labels: &mut [u8], f: Family, maps: usize, calls: usize) -> Tally {
-    let mut t = Tally {
-        calls: 0,
-        opened: 0,
-        closed: 0,
-        refused: 0,
-        changed: 0,
-        differ: 0,
-    };
+    let mut t = Tally::default();
     let mut x = 1u64;
-    let mut i = 0usize;
-    while i < maps {
+    for _ in 0..maps {
         t = one_map(t, labels, f, &mut x, calls);
-        i += 1;
     }
     t
 }

@@ -16,13 +16,12 @@
 
 ghost use Rattle.std.specs.Prelude.{◌≡◌, ◌+◌, ◌≤◌, length};
 
-use edits::Editing;
 use fill::Mode;
-use grid::{Axes, Cell};
+use grid::{Axes, Cell, Refusal};
 
 // Over many calls: how many were answered and how many refused, all the labels that they changed, and a number
 // that depends on every answer and on every label after each call. The totals are modulo 2^32.
-#[derive(Clone, Copy)]
+#[derive(Clone, Copy, Default)]
 struct Tally {
     answered: u64,
     refused: u64,
@@ -56,77 +55,64 @@ fn random(kind: u32, a: u32, b: u32, c: u32, n: usize) -> [u8; 65536]
 {
     let mut out = [0u8; 65536];
     let mut x = a as u64;
-    let mut i = 0usize;
-    while i < n {
+    for label in out[..n].iter_mut() {
         x = test_replay::drawn(x);
-        out[i] = label_of(kind, x, b, c);
-        i += 1;
+        *label = label_of(kind, x, b, c);
     }
     out
 }
 
 // ---- calls
 
-fn edited(way: u32, labels: &mut [u8], r: Axes, c: Cell) -> Editing {
+fn edited(way: u32, labels: &mut [u8], r: Axes, c: Cell) -> Result<usize, Refusal> {
     if way == 0 {
         return edits::open_cell(labels, r, c);
     }
     edits::close_cell(labels, r, c)
 }
 
-// An axis as a divisor.
-fn side(axis: usize) -> usize
-    ensures { 1 ≤ result }
-{
-    if axis == 0 { 1 } else { axis }
-}
-
-// The cell of a number.
+// The cell of a number; an axis of no cells counts as one.
 fn cell_of(r: Axes, n: usize) -> Cell {
-    let column = n / side(r.r0);
+    let row = r.r0.max(1);
+    let rows = r.r1.max(1);
+    let column = n / row;
     Cell {
-        i: n % side(r.r0),
-        j: column % side(r.r1),
-        k: column / side(r.r1),
+        i: n % row,
+        j: column % rows,
+        k: column / rows,
     }
 }
 
 // What can be done to a cell: a surface cell is opened, any other closed.
 fn way_at(labels: &[u8], n: usize) -> u32 {
-    if labels.len() <= n {
-        return 0;
+    match labels.get(n) {
+        Some(label) => u32::from(*label != grid::SURFACE),
+        None => 0,
     }
-    if labels[n] == grid::SURFACE { 0 } else { 1 }
 }
 
 // ---- what calls come to
-
-fn none() -> Tally {
-    Tally {
-        answered: 0,
-        refused: 0,
-        changed: 0,
-        sum: 0,
-    }
-}
 
 fn plus(x: u64, y: u64) -> u64 {
     (x % 4294967296 + y % 4294967296) % 4294967296
 }
 
-fn added(t: Tally, e: Editing) -> Tally {
+fn added(t: Tally, e: Result<usize, Refusal>) -> Tally {
     match e {
-        Editing::Changed(n) => Tally {
+        Ok(n) => Tally {
             answered: plus(t.answered, 1),
             refused: t.refused,
             changed: plus(t.changed, n as u64),
             sum: test_replay::folded(t.sum, n as u64),
         },
-        Editing::Refused(f) => Tally {
+        Err(f) => Tally {
             answered: t.answered,
             refused: plus(t.refused, 1),
             changed: t.changed,
-            sum: test_replay::folded(test_replay::folded(t.sum, f.number as u64), f.place as u64),
+            sum: test_replay::folded(
+                test_replay::folded(t.sum, u64::from(f.reason.number())),
+                f.place as u64,
+            ),
         },
     }
 }
@@ -153,18 +139,18 @@ fn report(t: Tally) {
 
 // ---- way 0: the edits of the input, with a line for each
 
-fn report_one(e: Editing, labels: &[u8]) {
+fn report_one(e: Result<usize, Refusal>, labels: &[u8]) {
     match e {
-        Editing::Changed(n) => {
+        Ok(n) => {
             test_replay::text(b"changed ");
             test_replay::number(n as u64);
             test_replay::number(grid::count_label(labels, grid::OUTSIDE) as u64);
             test_replay::number(grid::count_label(labels, grid::INSIDE) as u64);
             test_replay::number(grid::count_label(labels, grid::SURFACE) as u64);
         }
-        Editing::Refused(f) => {
+        Err(f) => {
             test_replay::text(b"refused ");
-            test_replay::number(f.number as u64);
+            test_replay::number(u64::from(f.reason.number()));
             test_replay::number(f.place as u64);
         }
     }
@@ -175,10 +161,12 @@ fn report_one(e: Editing, labels: &[u8]) {
 fn listed_edit(s: &[u8], at: usize, labels: &mut [u8], r: Axes)
     requires { at + 16 ≤ length s.now }
 {
-    let i = program_words::word(s, at + 4) as usize;
-    let j = program_words::word(s, at + 8) as usize;
-    let k = program_words::word(s, at + 12) as usize;
-    let e = edited(program_words::word(s, at), labels, r, Cell { i, j, k });
+    let c = Cell {
+        i: program_words::word(s, at + 4) as usize,
+        j: program_words::word(s, at + 8) as usize,
+        k: program_words::word(s, at + 12) as usize,
+    };
+    let e = edited(program_words::word(s, at), labels, r, c);
     report_one(e, labels);
 }
 
@@ -187,27 +175,22 @@ fn listed(s: &[u8], from: usize, count: usize, labels: &mut [u8], r: Axes) -> us
     requires { from ≤ length s.now }
     ensures { (from ≤ result) × (result ≤ length s.now) }
 {
-    let mut at = from;
-    let mut left = test_replay::at_most(count, (s.len() - from) / 16);
-    while 0 < left {
-        listed_edit(s, at, labels, r);
-        at += 16;
-        left -= 1;
+    let n = count.min((s.len() - from) / 16);
+    for i in 0..n {
+        listed_edit(s, from + 16 * i, labels, r);
     }
-    at
+    from + 16 * n
 }
 
 // ---- way 1: random edits
 
 // Of 32 draws, one opens and one closes whatever the cell is; the others do what can be done to it.
 fn drawn_way(v: u64, labels: &[u8], n: usize) -> u32 {
-    if v == 0 {
-        return 0;
+    match v {
+        0 => 0,
+        1 => 1,
+        _ => way_at(labels, n),
     }
-    if v == 1 {
-        return 1;
-    }
-    way_at(labels, n)
 }
 
 fn beyond(at: usize, axis: usize) -> usize {
@@ -217,38 +200,38 @@ fn beyond(at: usize, axis: usize) -> usize {
 // Three of 32 draws are off the grid, by an axis each.
 fn drawn_cell(v: u64, r: Axes, n: usize) -> Cell {
     let c = cell_of(r, n);
-    if v == 2 {
-        let i = beyond(c.i, r.r0);
-        return Cell { i, j: c.j, k: c.k };
+    match v {
+        2 => Cell {
+            i: beyond(c.i, r.r0),
+            ..c
+        },
+        3 => Cell {
+            j: beyond(c.j, r.r1),
+            ..c
+        },
+        4 => Cell {
+            k: beyond(c.k, r.r2),
+            ..c
+        },
+        _ => c,
     }
-    if v == 3 {
-        let j = beyond(c.j, r.r1);
-        return Cell { i: c.i, j, k: c.k };
-    }
-    if v == 4 {
-        let k = beyond(c.k, r.r2);
-        return Cell { i: c.i, j: c.j, k };
-    }
-    c
 }
 
 // The edit of two random numbers x and y.
 fn drawn_edit(t: Tally, x: u64, y: u64, labels: &mut [u8], r: Axes) -> Tally {
-    let n = (x / 256) as usize % side(labels.len());
+    let n = (x / 256) as usize % labels.len().max(1);
     let v = y / 65536 % 32;
     let way = drawn_way(v, labels, n);
     tallied(t, way, labels, r, drawn_cell(v, r, n))
 }
 
 fn random_edits(seed: u32, count: usize, labels: &mut [u8], r: Axes) -> Tally {
-    let mut t = none();
+    let mut t = Tally::default();
     let mut x = seed as u64;
-    let mut i = 0usize;
-    while i < count {
+    for _ in 0..count {
         let y = test_replay::drawn(x);
         x = test_replay::drawn(y);
         t = drawn_edit(t, y, x, labels, r);
-        i += 1;
     }
     t
 }
@@ -264,11 +247,9 @@ fn twice(t: Tally, n: usize, labels: &mut [u8], r: Axes) -> Tally {
 }
 
 fn each_cell(labels: &mut [u8], r: Axes) -> Tally {
-    let mut t = none();
-    let mut n = 0usize;
-    while n < labels.len() {
+    let mut t = Tally::default();
+    for n in 0..labels.len() {
         t = twice(t, n, labels, r);
-        n += 1;
     }
     t
 }
@@ -280,16 +261,13 @@ fn performed(s: &[u8], at: usize, from: usize, labels: &mut [u8], r: Axes) -> us
     requires { (at + 44 ≤ from) × (from ≤ length s.now) }
     ensures { (from ≤ result) × (result ≤ length s.now) }
 {
-    let way = program_words::word(s, at + 32);
     let count = program_words::word(s, at + 36) as usize;
-    if way == 0 {
-        return listed(s, from, count, labels, r);
+    let seed = program_words::word(s, at + 40);
+    match program_words::word(s, at + 32) {
+        0 => return listed(s, from, count, labels, r),
+        1 => report(random_edits(seed, count, labels, r)),
+        _ => report(each_cell(labels, r)),
     }
-    if way == 1 {
-        report(random_edits(program_words::word(s, at + 40), count, labels, r));
-        return from;
-    }
-    report(each_cell(labels, r));
     from
 }
 
@@ -299,8 +277,7 @@ fn flooded_and_performed(s: &[u8], at: usize, from: usize, labels: &mut [u8], r:
     ensures { (from ≤ result) × (result ≤ length s.now) }
 {
     if program_words::word(s, at) < 2 {
-        fill::fill(labels, r, Mode::Flood);
-        return performed(s, at, from, labels, r);
+        let _ = fill::fill(labels, r, Mode::Flood);
     }
     performed(s, at, from, labels, r)
 }
@@ -335,12 +312,10 @@ fn numbered(s: &[u8], from: usize, n: usize, m: usize) -> [u8; 512]
 {
     let mut out = [0u8; 512];
     let mut rest = m;
-    let mut i = 0usize;
-    while i < n {
+    for (i, label) in out[..n].iter_mut().enumerate() {
         let byte = s[from + i];
-        out[i] = pattern_label(byte, rest);
+        *label = pattern_label(byte, rest);
         rest = digits_left(byte, rest);
-        i += 1;
     }
     out
 }
@@ -374,10 +349,8 @@ fn pattern_cells(
     requires value { 512 ≡ length labels }
 {
     let mut t = before;
-    let mut i = 0usize;
-    while i < n {
-        t = pattern_cell(t, s[from + i], labels, n, r, cell_of(r, i));
-        i += 1;
+    for (i, byte) in s[from..from + n].iter().enumerate() {
+        t = pattern_cell(t, *byte, labels, n, r, cell_of(r, i));
     }
     t
 }
@@ -385,11 +358,9 @@ fn pattern_cells(
 fn pattern_grids(s: &[u8], from: usize, n: usize, grids: usize, r: Axes) -> Tally
     requires { (from + n ≤ length s.now) × (n ≤ 512) }
 {
-    let mut t = none();
-    let mut m = 0usize;
-    while m < grids {
+    let mut t = Tally::default();
+    for m in 0..grids {
         t = pattern_cells(t, s, from, numbered(s, from, n, m), n, r);
-        m += 1;
     }
     t
 }
@@ -440,7 +411,7 @@ fn pattern_case(s: &[u8], at: usize, len: usize, r: Axes) -> usize
     ensures { (at + 44 ≤ result) × (result ≤ length s.now) }
 {
     let from = at + 44;
-    let n = test_replay::at_most(len, 512);
+    let n = len.min(512);
     let size = (n + 3) / 4 * 4;
     if s.len() - from < size {
         return s.len();
@@ -454,35 +425,19 @@ fn one_case(s: &[u8], at: usize) -> usize
     requires { at + 44 ≤ length s.now }
     ensures { (at + 44 ≤ result) × (result ≤ length s.now) }
 {
-    let kind = program_words::word(s, at);
-    let n = test_replay::at_most(program_words::word(s, at + 16) as usize, 65536);
+    let n = (program_words::word(s, at + 16) as usize).min(65536);
     let r = test_replay::axes_of(s, at + 4);
-    if kind == 0 {
-        return bits_case(s, at, n, r);
-    }
-    if (kind == 1) | (kind == 3) {
-        return random_case(s, at, n, r);
-    }
-    if kind == 2 {
-        return bytes_case(s, at, n, r);
-    }
-    if kind == 4 {
-        return pattern_case(s, at, n, r);
-    }
-    s.len()
-}
-
-fn all_cases(s: &[u8])
-    requires { length s.now ≤ 65536 }
-{
-    let mut at = 0usize;
-    while at + 44 <= s.len() {
-        at = one_case(s, at);
+    match program_words::word(s, at) {
+        0 => bits_case(s, at, n, r),
+        1 | 3 => random_case(s, at, n, r),
+        2 => bytes_case(s, at, n, r),
+        4 => pattern_case(s, at, n, r),
+        _ => s.len(),
     }
 }
 
 fn main() {
     let mut buffer = io::large_buffer();
     let n = io::read_full(0, &mut buffer);
-    all_cases(&buffer[..n]);
+    test_replay::each_case(&buffer[..n], 44, one_case);
 }

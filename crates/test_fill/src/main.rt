@@ -10,8 +10,8 @@
 
 ghost use Rattle.std.specs.Prelude.{◌≡◌, ◌+◌, ◌*◌, ◌≤◌, ◌<◌, length};
 
-use fill::{FillCounts, Filling, Mode};
-use grid::Axes;
+use fill::{FillCounts, Mode};
+use grid::{Axes, Refusal};
 
 // Over all grids of a case: the scans, the cells left, and a number that depends on every label.
 #[derive(Clone, Copy)]
@@ -30,11 +30,9 @@ fn random(a: u32, b: u32, n: usize) -> [u8; 65536]
 {
     let mut out = [0u8; 65536];
     let mut x = a as u64;
-    let mut i = 0usize;
-    while i < n {
+    for label in out[..n].iter_mut() {
         x = test_replay::drawn(x);
-        out[i] = test_replay::label_if(x / 65536 % 256 < b as u64);
-        i += 1;
+        *label = test_replay::label_if(x / 65536 % 256 < b as u64);
     }
     out
 }
@@ -43,15 +41,7 @@ fn random(a: u32, b: u32, n: usize) -> [u8; 65536]
 fn numbered(m: usize) -> [u8; 12]
     ensures { 12 ≡ length result }
 {
-    let mut out = [0u8; 12];
-    let mut rest = m;
-    let mut i = 0usize;
-    while i < 12 {
-        out[i] = test_replay::label_if(rest % 2 == 1);
-        rest = rest / 2;
-        i += 1;
-    }
-    out
+    std::array::from_fn(|i| test_replay::label_if(m >> i & 1 == 1))
 }
 
 // ---- labels after it
@@ -65,9 +55,9 @@ fn reduced(x: usize) -> u64
 
 // ---- a case of one grid
 
-fn report(f: Filling, labels: &[u8]) {
+fn report(f: Result<FillCounts, Refusal>, labels: &[u8]) {
     match f {
-        Filling::Filled(c) => {
+        Ok(c) => {
             test_replay::text(b"filled ");
             test_replay::number(c.scans as u64);
             test_replay::number(c.left as u64);
@@ -75,9 +65,9 @@ fn report(f: Filling, labels: &[u8]) {
             test_replay::number(grid::count_label(labels, grid::INSIDE) as u64);
             test_replay::number(grid::count_label(labels, grid::SURFACE) as u64);
         }
-        Filling::Refused(f) => {
+        Err(f) => {
             test_replay::text(b"refused ");
-            test_replay::number(f.number as u64);
+            test_replay::number(u64::from(f.reason.number()));
             test_replay::number(f.place as u64);
         }
     }
@@ -100,17 +90,17 @@ fn filled(before: [u8; 65536], n: usize, r: Axes, mode: Mode)
 fn each_mode(labels: [u8; 65536], n: usize, r: Axes)
     requires { (65536 ≡ length labels) × (n ≤ 65536) }
 {
-    filled(labels, n, r, Mode::SurfaceOnly);
-    filled(labels, n, r, Mode::Flood);
-    filled(labels, n, r, Mode::Cavities);
+    for mode in [Mode::SurfaceOnly, Mode::Flood, Mode::Cavities] {
+        filled(labels, n, r, mode);
+    }
 }
 
 // ---- a case of every grid
 
-fn counts_of(f: Filling) -> FillCounts {
+fn counts_of(f: Result<FillCounts, Refusal>) -> FillCounts {
     match f {
-        Filling::Filled(c) => c,
-        Filling::Refused(_) => FillCounts { scans: 0, left: 0 },
+        Ok(c) => c,
+        Err(_) => FillCounts { scans: 0, left: 0 },
     }
 }
 
@@ -148,16 +138,13 @@ fn next_grid(t: Tally, m: usize, n: usize, r: Axes, mode: Mode) -> Tally
 fn every_grid(n: usize, r: Axes, mode: Mode) -> Tally
     requires { n ≤ 12 }
 {
-    let end = grids(n);
     let mut t = Tally {
         scans: 0,
         left: 0,
         sum: 0,
     };
-    let mut m = 0usize;
-    while m < end {
+    for m in 0..grids(n) {
         t = next_grid(t, m, n, r, mode);
-        m += 1;
     }
     t
 }
@@ -175,10 +162,10 @@ fn report_every(n: usize, r: Axes, mode: Mode)
 }
 
 fn every_case(len: usize, r: Axes) {
-    let n = test_replay::at_most(len, 12);
-    report_every(n, r, Mode::SurfaceOnly);
-    report_every(n, r, Mode::Flood);
-    report_every(n, r, Mode::Cavities);
+    let n = len.min(12);
+    for mode in [Mode::SurfaceOnly, Mode::Flood, Mode::Cavities] {
+        report_every(n, r, mode);
+    }
 }
 
 // ---- the input
@@ -222,37 +209,26 @@ fn one_case(s: &[u8], at: usize) -> usize
     requires { at + 28 ≤ length s.now }
     ensures { (at + 28 ≤ result) × (result ≤ length s.now) }
 {
-    let kind = program_words::word(s, at);
-    let n = test_replay::at_most(program_words::word(s, at + 16) as usize, 65536);
+    let n = (program_words::word(s, at + 16) as usize).min(65536);
     let r = test_replay::axes_of(s, at + 4);
-    if kind == 0 {
-        return bits_case(s, at + 28, n, r);
-    }
-    if kind == 1 {
-        random_case(s, at, n, r);
-        return at + 28;
-    }
-    if kind == 2 {
-        every_case(n, r);
-        return at + 28;
-    }
-    if kind == 3 {
-        return bytes_case(s, at + 28, n, r);
-    }
-    s.len()
-}
-
-fn all_cases(s: &[u8])
-    requires { length s.now ≤ 65536 }
-{
-    let mut at = 0usize;
-    while at + 28 <= s.len() {
-        at = one_case(s, at);
+    let next = at + 28;
+    match program_words::word(s, at) {
+        0 => bits_case(s, next, n, r),
+        1 => {
+            random_case(s, at, n, r);
+            next
+        }
+        2 => {
+            every_case(n, r);
+            next
+        }
+        3 => bytes_case(s, next, n, r),
+        _ => s.len(),
     }
 }
 
 fn main() {
     let mut buffer = io::large_buffer();
     let n = io::read_full(0, &mut buffer);
-    all_cases(&buffer[..n]);
+    test_replay::each_case(&buffer[..n], 28, one_case);
 }

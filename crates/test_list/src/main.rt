@@ -9,8 +9,8 @@
 
 ghost use Rattle.std.specs.Prelude.{◌≡◌, ◌+◌, ◌*◌, ◌≤◌, length};
 
-use grid::{Axes, Placement};
-use list::Listing;
+use grid::{Axes, Placement, Refusal};
+use list::ListCounts;
 use test_replay::Row;
 
 // The lists of a case; `next` is where the stored numbers end.
@@ -24,21 +24,18 @@ struct Lists {
 
 // ---- with pairs
 
-fn show(a: Listing, records: &[u32], list: &[u32]) {
+fn show(a: Result<ListCounts, Refusal>, records: &[u32], list: &[u32]) {
     match a {
-        Listing::Listed(c) => {
+        Ok(c) => {
             test_replay::text(b"listed ");
             test_replay::number(c.cells as u64);
             test_replay::number(c.pairs as u64);
-            test_replay::show_words(
-                records,
-                test_replay::at_most(c.cells, 196620) * list_record::WIDTH,
-            );
-            test_replay::show_words(list, c.pairs);
+            test_replay::show(records, c.cells.min(196620) * list_record::WIDTH);
+            test_replay::show(list, c.pairs);
         }
-        Listing::Refused(f) => test_replay::refused(f),
+        Err(f) => test_replay::refused(f),
     }
-    test_replay::number(test_replay::sum_words(records));
+    test_replay::number(test_replay::sum(0, records));
 }
 
 fn pairs_and_report(
@@ -52,7 +49,7 @@ fn pairs_and_report(
 ) {
     let a = list_pairs::list_pairs(points, triangles, r, at, labels, records, list);
     show(a, records, list);
-    test_replay::line(test_replay::sum_words(list));
+    test_replay::line(test_replay::sum(0, list));
 }
 
 fn with_outputs(
@@ -66,8 +63,8 @@ fn with_outputs(
 )
     requires { (n ≤ 196620) × (m ≤ 196620) }
 {
-    let mut records = test_replay::blank_words(n);
-    let mut list = test_replay::blank_words(m);
+    let mut records: [u32; 196620] = test_replay::blank(n);
+    let mut list: [u32; 196620] = test_replay::blank(m);
     pairs_and_report(
         points,
         triangles,
@@ -86,11 +83,11 @@ fn pairs_case(s: &[u8], at: usize, l: Lists, n: usize, m: usize)
     requires stored_in_bounds_3 { (l.triangles.from + 4 * l.triangles.stored ≤ length s.now) × (l.triangles.length ≤ 196620) }
 {
     let labels = test_replay::labels(s, l.labels);
-    let points = test_replay::floats(s, l.points);
-    let triangles = test_replay::words(s, l.triangles);
+    let points: [f32; 196620] = test_replay::numbers(s, l.points);
+    let triangles: [u32; 196620] = test_replay::numbers(s, l.triangles);
     let r = test_replay::axes_of(s, at + 4);
     let place = test_replay::placement_of(s, at + 16);
-    let cells = test_replay::at_most(l.labels.length, 65536);
+    let cells = l.labels.length.min(65536);
     with_outputs(
         &points[..l.points.length],
         &triangles[..l.triangles.length],
@@ -114,7 +111,7 @@ fn cells_and_report(labels: &[u8], r: Axes, records: &mut [u32]) {
 fn with_output(labels: &[u8], r: Axes, n: usize)
     requires { n ≤ 196620 }
 {
-    let mut records = test_replay::blank_words(n);
+    let mut records: [u32; 196620] = test_replay::blank(n);
     cells_and_report(labels, r, &mut records[..n]);
 }
 
@@ -124,7 +121,7 @@ fn cells_case(s: &[u8], at: usize, l: Lists, n: usize)
 {
     let labels = test_replay::labels(s, l.labels);
     let r = test_replay::axes_of(s, at + 4);
-    let cells = test_replay::at_most(l.labels.length, 65536);
+    let cells = l.labels.length.min(65536);
     with_output(&labels[..cells], r, n);
 }
 
@@ -135,15 +132,15 @@ fn range_and_report(list: &[u32], start: u32, end: u32) {
     let p = list_record::list_slice(list, start, end);
     test_replay::text(b"part ");
     test_replay::number(p.len() as u64);
-    test_replay::show_words(p, p.len());
-    test_replay::line(test_replay::sum_words(p));
+    test_replay::show(p, p.len());
+    test_replay::line(test_replay::sum(0, p));
 }
 
 fn range_case(s: &[u8], at: usize, l: Lists)
     requires at_in_bounds { at + 92 ≤ length s.now }
     requires stored_in_bounds { (l.triangles.from + 4 * l.triangles.stored ≤ length s.now) × (l.triangles.length ≤ 196620) }
 {
-    let list = test_replay::words(s, l.triangles);
+    let list: [u32; 196620] = test_replay::numbers(s, l.triangles);
     let start = program_words::word(s, at + 4);
     let end = program_words::word(s, at + 8);
     range_and_report(&list[..l.triangles.length], start, end);
@@ -179,32 +176,18 @@ fn one_case(s: &[u8], at: usize) -> usize
     if s.len() < next {
         return s.len();
     }
-    let kind = program_words::word(s, at);
-    let n = test_replay::at_most(program_words::word(s, at + 84) as usize, 196620);
-    let m = test_replay::at_most(program_words::word(s, at + 88) as usize, 196620);
-    if kind == 0 {
-        pairs_case(s, at, l, n, m);
-        return next;
+    let n = (program_words::word(s, at + 84) as usize).min(196620);
+    let m = (program_words::word(s, at + 88) as usize).min(196620);
+    match program_words::word(s, at) {
+        0 => pairs_case(s, at, l, n, m),
+        1 => cells_case(s, at, l, n),
+        _ => range_case(s, at, l),
     }
-    if kind == 1 {
-        cells_case(s, at, l, n);
-        return next;
-    }
-    range_case(s, at, l);
     next
-}
-
-fn all_cases(s: &[u8])
-    requires { length s.now ≤ 262144 }
-{
-    let mut at = 0usize;
-    while at + 92 <= s.len() {
-        at = one_case(s, at);
-    }
 }
 
 fn main() {
     let mut buffer = test_replay::input();
     let n = io::read_full(0, &mut buffer);
-    all_cases(&buffer[..n]);
+    test_replay::each_case(&buffer[..n], 92, one_case);
 }

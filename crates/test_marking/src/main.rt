@@ -6,34 +6,7 @@
 
 ghost use Rattle.std.specs.Prelude.{◌≡◌, ◌+◌, ◌*◌, ◌≤◌, length};
 
-use grid::{Axes, Placement};
-use marking::Marking;
-
-fn floats(s: &[u8], at: usize, n: usize) -> [f32; 192]
-    requires { (at + 4 * n ≤ length s.now) × (n ≤ 192) }
-    ensures { 192 ≡ length result }
-{
-    let mut out = [0.0f32; 192];
-    let mut i = 0usize;
-    while i < n {
-        out[i] = program_words::float_of(program_words::word(s, at + 4 * i));
-        i += 1;
-    }
-    out
-}
-
-fn words(s: &[u8], at: usize, n: usize) -> [u32; 192]
-    requires { (at + 4 * n ≤ length s.now) × (n ≤ 192) }
-    ensures { 192 ≡ length result }
-{
-    let mut out = [0u32; 192];
-    let mut i = 0usize;
-    while i < n {
-        out[i] = program_words::word(s, at + 4 * i);
-        i += 1;
-    }
-    out
-}
+use grid::{Axes, Placement, Refusal};
 
 fn zeros() -> [u32; 196620]
     ensures { 196620 ≡ length result }
@@ -45,24 +18,18 @@ fn zeros() -> [u32; 196620]
 fn pattern() -> [u8; 65536]
     ensures { 65536 ≡ length result }
 {
-    let mut out = [0u8; 65536];
-    let mut i = 0usize;
-    while i < 65536 {
-        out[i] = (i % 5 + 1) as u8;
-        i += 1;
-    }
-    out
+    std::array::from_fn(|i| (i % 5 + 1) as u8)
 }
 
-fn report(m: Marking, labels: &[u8]) {
+fn report(m: Result<(), Refusal>, labels: &[u8]) {
     match m {
-        Marking::Marked => {
+        Ok(()) => {
             test_replay::text(b"marked ");
             test_replay::number(grid::count_label(labels, grid::SURFACE) as u64);
         }
-        Marking::Refused(f) => {
+        Err(f) => {
             test_replay::text(b"refused ");
-            test_replay::number(f.number as u64);
+            test_replay::number(u64::from(f.reason.number()));
             test_replay::number(f.place as u64);
         }
     }
@@ -77,8 +44,7 @@ fn mark_and_report(points: &[f32], triangles: &[u32], r: Axes, at: Placement, la
 
 fn marked(points: &[f32], triangles: &[u32], r: Axes, at: Placement, len: usize) {
     let mut labels = pattern();
-    let n = test_replay::at_most(len, 65536);
-    mark_and_report(points, triangles, r, at, &mut labels[..n]);
+    mark_and_report(points, triangles, r, at, &mut labels[..len.min(65536)]);
 }
 
 fn long_case(s: &[u8], at: usize, p: usize, t: usize)
@@ -86,13 +52,11 @@ fn long_case(s: &[u8], at: usize, p: usize, t: usize)
 {
     let points = test_replay::ones();
     let triangles = zeros();
-    let np = test_replay::at_most(p, 196620);
-    let nt = test_replay::at_most(t, 196620);
     let r = test_replay::axes_of(s, at + 8);
     let place = test_replay::placement_of(s, at + 20);
     marked(
-        &points[..np],
-        &triangles[..nt],
+        &points[..p.min(196620)],
+        &triangles[..t.min(196620)],
         r,
         place,
         program_words::word(s, at + 40) as usize,
@@ -103,8 +67,8 @@ fn stored_case(s: &[u8], at: usize, p: usize, t: usize)
     requires { (at + 44 + 4 * p + 4 * t ≤ length s.now) × (p ≤ 192) × (t ≤ 192) }
 {
     let from = at + 44;
-    let points = floats(s, from, p);
-    let triangles = words(s, from + 4 * p, t);
+    let points: [f32; 192] = test_replay::list_of(s, from, p);
+    let triangles: [u32; 192] = test_replay::list_of(s, from + 4 * p, t);
     let r = test_replay::axes_of(s, at + 8);
     let place = test_replay::placement_of(s, at + 20);
     marked(
@@ -135,17 +99,8 @@ fn one_case(s: &[u8], at: usize) -> usize
     next
 }
 
-fn all_cases(s: &[u8])
-    requires { length s.now ≤ 65536 }
-{
-    let mut at = 0usize;
-    while at + 44 <= s.len() {
-        at = one_case(s, at);
-    }
-}
-
 fn main() {
     let mut buffer = io::large_buffer();
     let n = io::read_full(0, &mut buffer);
-    all_cases(&buffer[..n]);
+    test_replay::each_case(&buffer[..n], 44, one_case);
 }

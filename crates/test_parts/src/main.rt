@@ -9,9 +9,7 @@
 
 ghost use Rattle.std.specs.Prelude.{◌+◌, ◌*◌, ◌≤◌, length};
 
-use classes::Classing;
 use grid::Placement;
-use planes::{Planing, Splitting};
 use test_replay::Row;
 
 // The lists of a case; `next` is where the stored numbers end.
@@ -26,19 +24,19 @@ struct Lists {
 
 fn classify_and_report(entries: &[u32], ends: &[u32], count: usize, classes: &mut [u32]) {
     match classes::classify(entries, ends, count, classes) {
-        Classing::Classed => {
+        Ok(()) => {
             test_replay::text(b"classed ");
-            test_replay::show_words(classes, count);
+            test_replay::show(classes, count);
         }
-        Classing::Refused(f) => test_replay::refused(f),
+        Err(f) => test_replay::refused(f),
     }
-    test_replay::line(test_replay::sum_words(classes));
+    test_replay::line(test_replay::sum(0, classes));
 }
 
 fn classes_to(entries: &[u32], ends: &[u32], count: usize, n: usize)
     requires { n ≤ 196620 }
 {
-    let mut classes = test_replay::blank_words(n);
+    let mut classes: [u32; 196620] = test_replay::blank(n);
     classify_and_report(entries, ends, count, &mut classes[..n]);
 }
 
@@ -47,8 +45,8 @@ fn classes_case(s: &[u8], at: usize, l: Lists, n: usize)
     requires stored_in_bounds { (l.one.from + 4 * l.one.stored ≤ length s.now) × (l.one.length ≤ 196620) }
     requires stored_in_bounds_2 { (l.other.from + 4 * l.other.stored ≤ length s.now) × (l.other.length ≤ 196620) }
 {
-    let entries = test_replay::words(s, l.one);
-    let ends = test_replay::words(s, l.other);
+    let entries: [u32; 196620] = test_replay::numbers(s, l.one);
+    let ends: [u32; 196620] = test_replay::numbers(s, l.other);
     let count = test_replay::wide(s, at + 4);
     classes_to(&entries[..l.one.length], &ends[..l.other.length], count, n);
 }
@@ -65,15 +63,15 @@ fn planes_and_report(
     ds: &mut [f32],
 ) {
     match planes::planes_about(at, axis, low, high, best, step, ds) {
-        Planing::Planned(p) => {
+        Ok(p) => {
             test_replay::text(b"planned ");
             test_replay::number(p.first as u64);
             test_replay::number(p.count as u64);
-            test_replay::show_floats(ds, p.count);
+            test_replay::show(ds, p.count);
         }
-        Planing::Refused(f) => test_replay::refused(f),
+        Err(f) => test_replay::refused(f),
     }
-    test_replay::line(test_replay::sum_floats(ds));
+    test_replay::line(test_replay::sum(0, ds));
 }
 
 fn planes_case(s: &[u8], at: usize, n: usize)
@@ -85,7 +83,7 @@ fn planes_case(s: &[u8], at: usize, n: usize)
     let best = test_replay::wide(s, at + 28);
     let step = test_replay::wide(s, at + 36);
     let place = test_replay::placement_of(s, at + 44);
-    let mut ds = test_replay::blank_floats(n);
+    let mut ds: [f32; 196620] = test_replay::blank(n);
     planes_and_report(place, axis, low, high, best, step, &mut ds[..n]);
 }
 
@@ -93,24 +91,24 @@ fn planes_case(s: &[u8], at: usize, n: usize)
 
 fn split_and_report(ps: &[f32], axis: usize, d: f32, above: &mut [f32], below: &mut [f32]) {
     match planes::split_points(ps, axis, d, above, below) {
-        Splitting::Split(n) => {
+        Ok(n) => {
             test_replay::text(b"split ");
             test_replay::number(n.first as u64);
             test_replay::number(n.second as u64);
-            test_replay::show_floats(above, 3 * test_replay::at_most(n.first, 65536));
-            test_replay::show_floats(below, 3 * test_replay::at_most(n.second, 65536));
+            test_replay::show(above, 3 * n.first.min(65536));
+            test_replay::show(below, 3 * n.second.min(65536));
         }
-        Splitting::Refused(f) => test_replay::refused(f),
+        Err(f) => test_replay::refused(f),
     }
-    test_replay::number(test_replay::sum_floats(above));
-    test_replay::line(test_replay::sum_floats(below));
+    test_replay::number(test_replay::sum(0, above));
+    test_replay::line(test_replay::sum(0, below));
 }
 
 fn split_to(ps: &[f32], axis: usize, d: f32, n: usize, m: usize)
     requires { (n ≤ 196620) × (m ≤ 196620) }
 {
-    let mut above = test_replay::blank_floats(n);
-    let mut below = test_replay::blank_floats(m);
+    let mut above: [f32; 196620] = test_replay::blank(n);
+    let mut below: [f32; 196620] = test_replay::blank(m);
     split_and_report(ps, axis, d, &mut above[..n], &mut below[..m]);
 }
 
@@ -118,9 +116,9 @@ fn split_case(s: &[u8], at: usize, l: Lists, n: usize, m: usize)
     requires at_in_bounds { (at + 104 ≤ length s.now) × (n ≤ 196620) × (m ≤ 196620) }
     requires stored_in_bounds { (l.one.from + 4 * l.one.stored ≤ length s.now) × (l.one.length ≤ 196620) }
 {
-    let ps = test_replay::floats(s, l.one);
+    let ps: [f32; 196620] = test_replay::numbers(s, l.one);
     let axis = test_replay::wide(s, at + 4);
-    let d = program_words::float_of(program_words::word(s, at + 44));
+    let d = program_words::float_at(s, at + 44);
     split_to(&ps[..l.one.length], axis, d, n, m);
 }
 
@@ -148,32 +146,18 @@ fn one_case(s: &[u8], at: usize) -> usize
     if s.len() < next {
         return s.len();
     }
-    let kind = program_words::word(s, at);
-    let n = test_replay::at_most(program_words::word(s, at + 96) as usize, 196620);
-    let m = test_replay::at_most(program_words::word(s, at + 100) as usize, 196620);
-    if kind == 0 {
-        classes_case(s, at, l, n);
-        return next;
+    let n = (program_words::word(s, at + 96) as usize).min(196620);
+    let m = (program_words::word(s, at + 100) as usize).min(196620);
+    match program_words::word(s, at) {
+        0 => classes_case(s, at, l, n),
+        1 => planes_case(s, at, n),
+        _ => split_case(s, at, l, n, m),
     }
-    if kind == 1 {
-        planes_case(s, at, n);
-        return next;
-    }
-    split_case(s, at, l, n, m);
     next
-}
-
-fn all_cases(s: &[u8])
-    requires { length s.now ≤ 262144 }
-{
-    let mut at = 0usize;
-    while at + 104 <= s.len() {
-        at = one_case(s, at);
-    }
 }
 
 fn main() {
     let mut buffer = test_replay::input();
     let n = io::read_full(0, &mut buffer);
-    all_cases(&buffer[..n]);
+    test_replay::each_case(&buffer[..n], 104, one_case);
 }

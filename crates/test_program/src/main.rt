@@ -7,8 +7,8 @@
 
 ghost use Rattle.std.specs.Prelude.{◌≡◌, ◌+◌, ◌≤◌, ◌<◌, length};
 
-use program::Writing;
-use program_summary::{Summary, Summing};
+use grid::Refusal;
+use program_summary::Summary;
 
 // How many inputs were mapped, and a number that depends on all that was said and written.
 #[derive(Clone, Copy)]
@@ -32,30 +32,30 @@ fn show_numbers(n: Summary) {
     test_replay::number(n.scans as u64);
 }
 
-fn show_said(s: Summing) {
+fn show_said(s: Result<Summary, Refusal>) {
     match s {
-        Summing::Summed(n) => show_numbers(n),
-        Summing::Refused(f) => test_replay::refused(f),
+        Ok(n) => show_numbers(n),
+        Err(f) => test_replay::refused(f),
     }
 }
 
-fn show_written(w: Writing) {
+fn show_written(w: Result<usize, Refusal>) {
     match w {
-        Writing::Wrote(n) => {
+        Ok(n) => {
             test_replay::text(b"wrote ");
             test_replay::number(n as u64);
         }
-        Writing::Refused(f) => test_replay::refused(f),
+        Err(f) => test_replay::refused(f),
     }
 }
 
 // How many bytes were written, if that is at most so many.
-fn count(w: Writing, most: usize) -> usize
+fn count(w: Result<usize, Refusal>, most: usize) -> usize
     ensures { result ≤ most }
 {
     match w {
-        Writing::Wrote(n) => test_replay::at_most(n, most),
-        Writing::Refused(_) => 0,
+        Ok(n) => n.min(most),
+        Err(_) => 0,
     }
 }
 
@@ -73,22 +73,22 @@ fn fold_numbers(t: u64, n: Summary) -> u64 {
     test_replay::folded(g, n.scans as u64)
 }
 
-fn fold_said(t: u64, s: Summing) -> u64 {
+fn fold_said(t: u64, s: Result<Summary, Refusal>) -> u64 {
     match s {
-        Summing::Summed(n) => fold_numbers(t, n),
-        Summing::Refused(f) => {
-            let a = test_replay::folded(t, f.number as u64);
+        Ok(n) => fold_numbers(t, n),
+        Err(f) => {
+            let a = test_replay::folded(t, u64::from(f.reason.number()));
             test_replay::folded(a, f.place as u64)
         }
     }
 }
 
-fn mapped(s: Summing) -> u64
+fn mapped(s: Result<Summary, Refusal>) -> u64
     ensures { result ≤ 1 }
 {
     match s {
-        Summing::Summed(_) => 1,
-        Summing::Refused(_) => 0,
+        Ok(_) => 1,
+        Err(_) => 0,
     }
 }
 
@@ -98,13 +98,7 @@ fn mapped(s: Summing) -> u64
 fn blank() -> [u8; 300]
     ensures { 300 ≡ length result }
 {
-    let mut out = [0u8; 300];
-    let mut i = 0usize;
-    while i < 300 {
-        out[i] = (i % 97) as u8 + 100;
-        i += 1;
-    }
-    out
+    std::array::from_fn(|i| (i % 97) as u8 + 100)
 }
 
 fn run_and_show(input: &[u8], out: &mut [u8]) -> usize
@@ -147,18 +141,9 @@ fn report(input: &[u8]) {
 }
 
 fn each_prefix(s: &[u8]) {
-    let mut n = 0usize;
-    while n < s.len() {
+    for n in 0..=s.len() {
         report(&s[..n]);
-        n += 1;
     }
-    report(s);
-}
-
-fn after(byte: u8, by: usize) -> u8
-    requires { by < 256 }
-{
-    ((byte as usize + by) % 256) as u8
 }
 
 fn copied(s: &[u8]) -> [u8; 256]
@@ -166,21 +151,17 @@ fn copied(s: &[u8]) -> [u8; 256]
     ensures { 256 ≡ length result }
 {
     let mut out = [0u8; 256];
-    let mut i = 0usize;
-    while i < s.len() {
-        out[i] = s[i];
-        i += 1;
-    }
+    out[..s.len()].copy_from_slice(s);
     out
 }
 
 // The input with one byte changed, by 1 to 255.
-fn changed(s: &[u8], at: usize, by: usize) -> [u8; 256]
-    requires { (length s.now ≤ 256) × (at < length s.now) × (by < 256) }
+fn changed(s: &[u8], at: usize, by: u8) -> [u8; 256]
+    requires { (length s.now ≤ 256) × (at < length s.now) }
     ensures { 256 ≡ length result }
 {
     let mut copy = copied(s);
-    copy[at] = after(s[at], by);
+    copy[at] = s[at].wrapping_add(by);
     copy
 }
 
@@ -194,8 +175,8 @@ fn run_and_add(t: Total, input: &[u8]) -> Total
     Total { mapped, sum }
 }
 
-fn add_changed(t: Total, s: &[u8], at: usize, by: usize) -> Total
-    requires { (length s.now ≤ 256) × (at < length s.now) × (by < 256) × (t.mapped ≤ 255) }
+fn add_changed(t: Total, s: &[u8], at: usize, by: u8) -> Total
+    requires { (length s.now ≤ 256) × (at < length s.now) × (t.mapped ≤ 255) }
     ensures { result.mapped ≤ t.mapped + 1 }
 {
     let copy = changed(s, at, by);
@@ -207,10 +188,8 @@ fn byte_changed(s: &[u8], at: usize)
     requires { (length s.now ≤ 256) × (at < length s.now) }
 {
     let mut t = Total { mapped: 0, sum: 0 };
-    let mut by = 1usize;
-    while by < 256 {
+    for by in 1..=255u8 {
         t = add_changed(t, s, at, by);
-        by += 1;
     }
     test_replay::text(b"changed ");
     test_replay::number(at as u64);
@@ -221,10 +200,8 @@ fn byte_changed(s: &[u8], at: usize)
 fn each_byte(s: &[u8])
     requires { length s.now ≤ 256 }
 {
-    let mut at = 0usize;
-    while at < s.len() {
+    for at in 0..s.len() {
         byte_changed(s, at);
-        at += 1;
     }
 }
 
@@ -258,17 +235,8 @@ fn one_case(s: &[u8], at: usize) -> usize
     end
 }
 
-fn all_cases(s: &[u8])
-    requires { length s.now ≤ 262144 }
-{
-    let mut at = 0usize;
-    while at + 8 <= s.len() {
-        at = one_case(s, at);
-    }
-}
-
 fn main() {
     let mut buffer = test_replay::input();
     let n = io::read_full(0, &mut buffer);
-    all_cases(&buffer[..n]);
+    test_replay::each_case(&buffer[..n], 8, one_case);
 }

@@ -2,11 +2,10 @@
 // numbers written as text. The text is tested by the programs' runs; here it is only proved that nothing faults.
 #![tactic(auto)]
 
-ghost use Rattle.std.specs.Prelude.{◌≡◌, ◌+◌, ◌*◌, ◌≤◌, length};
+ghost use Rattle.std.specs.Prelude.{◌≡◌, ℕ, ◌+◌, ◌*◌, ◌^◌, ◌≤◌, ◌<◌, length};
 
-use grid::{Axes, Checked, Placement, Refusal};
-use numbers::Whole;
-use sizing::Sized;
+use grid::{Axes, Laid, Placement, Refusal};
+use numbers::NoWhole;
 
 // The number of the standard output among the open files.
 const STDOUT: i32 = 1;
@@ -24,13 +23,6 @@ pub struct Row {
 
 // ---- input
 
-// A count, or the most that there is.
-pub fn at_most(n: usize, most: usize) -> usize
-    ensures { result ≤ most }
-{
-    if n <= most { n } else { most }
-}
-
 // More numbers than a list of points or triangles may have.
 pub fn ones() -> [f32; 196620]
     ensures { 196620 ≡ length result }
@@ -38,10 +30,33 @@ pub fn ones() -> [f32; 196620]
     [1.0f32; 196620]
 }
 
-// ---- labels
+// ---- sums
 
-fn widened(label: u8) -> u64 {
-    label as u64
+// What stands in a list: a label or a number.
+pub trait Item: Copy {
+    // Its bits, or what no item of the type has.
+    fn bits(self) -> u64;
+}
+
+impl Item for u8 {
+    fn bits(self) -> u64 {
+        u64::from(self)
+    }
+}
+
+impl Item for u32 {
+    fn bits(self) -> u64 {
+        u64::from(self)
+    }
+}
+
+impl Item for f32 {
+    fn bits(self) -> u64 {
+        if self.is_nan() {
+            return 4294967296;
+        }
+        u64::from(self.to_bits())
+    }
 }
 
 // A number that depends on s and on x.
@@ -49,13 +64,11 @@ pub fn folded(s: u64, x: u64) -> u64 {
     (s % 4294967291 * 31 + x % 4294967291 + 1) % 4294967291
 }
 
-// A number that depends on s, on every label and on its place.
-pub fn sum(s: u64, labels: &[u8]) -> u64 {
+// A number that depends on s, on every item and on its place.
+pub fn sum<T: Item>(s: u64, list: &[T]) -> u64 {
     let mut t = s;
-    let mut i = 0usize;
-    while i < labels.len() {
-        t = folded(t, widened(labels[i]));
-        i += 1;
+    for item in list {
+        t = folded(t, item.bits());
     }
     t
 }
@@ -73,10 +86,10 @@ pub fn number(n: u64) {
 
 // The bits of a float in hexadecimal.
 pub fn bits(x: f32) {
-    if x != x {
+    if x.is_nan() {
         text(b"nan ");
     } else {
-        io::print_hex(STDOUT, f32::to_bits(x) as u64, 8);
+        io::print_hex(STDOUT, u64::from(x.to_bits()), 8);
         text(b" ");
     }
 }
@@ -85,27 +98,24 @@ pub fn bits(x: f32) {
 pub fn signed(n: i64) {
     if n < 0 {
         text(b"-");
-        let m = 0 - (n + 1);
-        number(m as u64 + 1);
-        return;
     }
-    number(n as u64);
+    number(n.unsigned_abs());
 }
 
-pub fn whole(w: Whole) {
+pub fn whole(w: Result<i64, NoWhole>) {
     match w {
-        Whole::Of(n) => signed(n),
-        Whole::TooLarge => text(b"large "),
-        Whole::NotANumber => text(b"nan "),
+        Ok(n) => signed(n),
+        Err(NoWhole::TooLarge) => text(b"large "),
+        Err(NoWhole::NotANumber) => text(b"nan "),
     }
 }
 
-pub fn checked(c: Checked) {
+pub fn checked(c: Result<(), Refusal>) {
     match c {
-        Checked::Fine => text(b"fine"),
-        Checked::Fault(f) => {
+        Ok(()) => text(b"fine"),
+        Err(f) => {
             text(b"refused ");
-            number(f.number as u64);
+            number(u64::from(f.reason.number()));
             number(f.place as u64);
         }
     }
@@ -113,21 +123,21 @@ pub fn checked(c: Checked) {
 }
 
 // Axes, then the bits of the origin, the scale and the reciprocal.
-pub fn sized(s: Sized) {
+pub fn sized(s: Result<Laid, Refusal>) {
     match s {
-        Sized::Refused(f) => {
-            checked(Checked::Fault(f));
+        Err(f) => {
+            checked(Err(f));
         }
-        Sized::Grid(a, p) => {
+        Ok(laid) => {
             text(b"grid ");
-            number(a.r0 as u64);
-            number(a.r1 as u64);
-            number(a.r2 as u64);
-            bits(p.x);
-            bits(p.y);
-            bits(p.z);
-            bits(p.scale);
-            bits(p.reciprocal);
+            number(laid.axes.r0 as u64);
+            number(laid.axes.r1 as u64);
+            number(laid.axes.r2 as u64);
+            bits(laid.placement.x);
+            bits(laid.placement.y);
+            bits(laid.placement.z);
+            bits(laid.placement.scale);
+            bits(laid.placement.reciprocal);
             text(b"\n");
         }
     }
@@ -154,10 +164,8 @@ pub fn marks_of(s: &[u8], from: usize, n: usize) -> [u8; 65536]
     ensures { 65536 ≡ length result }
 {
     let mut out = [0u8; 65536];
-    let mut i = 0usize;
-    while i < n {
-        out[i] = label_if(bit(s[from + i / 8], i));
-        i += 1;
+    for (i, label) in out[..n].iter_mut().enumerate() {
+        *label = label_if(bit(s[from + i / 8], i));
     }
     out
 }
@@ -168,17 +176,55 @@ pub fn labels_of(s: &[u8], from: usize, n: usize) -> [u8; 65536]
     ensures { 65536 ≡ length result }
 {
     let mut out = [0u8; 65536];
-    let mut i = 0usize;
-    while i < n {
-        out[i] = s[from + i];
-        i += 1;
-    }
+    out[..n].copy_from_slice(&s[from..from + n]);
     out
 }
 
 // The random number after x, of 32 bits.
 pub fn drawn(x: u64) -> u64 {
     (x % 4294967296 * 1664525 + 1013904223) % 4294967296
+}
+
+// ---- numbers of a stored case
+
+// A number of a list: a word or a float.
+pub trait Stored: Item {
+    // The number of a stored word.
+    fn of_word(word: u32) -> Self;
+
+    // Number i of an output before a call.
+    fn blank(i: usize) -> Self;
+
+    // Writes it as text.
+    fn show(self);
+}
+
+impl Stored for u32 {
+    fn of_word(word: u32) -> Self {
+        word
+    }
+
+    fn blank(i: usize) -> Self {
+        (i % 97) as u32 + 4000000000
+    }
+
+    fn show(self) {
+        number(u64::from(self));
+    }
+}
+
+impl Stored for f32 {
+    fn of_word(word: u32) -> Self {
+        program_words::float_of(word)
+    }
+
+    fn blank(i: usize) -> Self {
+        program_words::float_of((i % 97) as u32 + 1100000000)
+    }
+
+    fn show(self) {
+        bits(self);
+    }
 }
 
 // ---- lists of a stored case
@@ -188,6 +234,19 @@ pub fn input() -> [u8; 262144]
     ensures { 262144 ≡ length result }
 {
     [0u8; 262144]
+}
+
+// Runs the cases of an input one after the other. Each has at least so many bytes and answers where the next
+// begins, or the end: cases are of many lengths, so no index counts them.
+pub fn each_case<F: Fn(&[u8], usize) -> usize>(s: &[u8], least: usize, one_case: F)
+    requires least_bound { (0 < least) × (length s.now + least < 2 ^ 64) }
+    requires callable { (at : ℕ) → at + least ≤ length s.now → F.pre one_case s at }
+    requires goes_on { (at next : ℕ) → at + least ≤ length s.now → F.post one_case s at next → (at + least ≤ next) × (next ≤ length s.now) }
+{
+    let mut at = 0;
+    while at + least <= s.len() {
+        at = one_case(s, at);
+    }
 }
 
 // Two words as one number, the lower first.
@@ -200,27 +259,35 @@ pub fn wide(s: &[u8], at: usize) -> usize
 pub fn axes_of(s: &[u8], at: usize) -> Axes
     requires { at + 12 ≤ length s.now }
 {
-    let r0 = program_words::word(s, at) as usize;
-    let r1 = program_words::word(s, at + 4) as usize;
-    let r2 = program_words::word(s, at + 8) as usize;
-    Axes { r0, r1, r2 }
+    Axes {
+        r0: program_words::word(s, at) as usize,
+        r1: program_words::word(s, at + 4) as usize,
+        r2: program_words::word(s, at + 8) as usize,
+    }
 }
 
 pub fn placement_of(s: &[u8], at: usize) -> Placement
     requires { at + 20 ≤ length s.now }
 {
-    let x = program_words::float_of(program_words::word(s, at));
-    let y = program_words::float_of(program_words::word(s, at + 4));
-    let z = program_words::float_of(program_words::word(s, at + 8));
-    let scale = program_words::float_of(program_words::word(s, at + 12));
-    let reciprocal = program_words::float_of(program_words::word(s, at + 16));
     Placement {
-        x,
-        y,
-        z,
-        scale,
-        reciprocal,
+        x: program_words::float_at(s, at),
+        y: program_words::float_at(s, at + 4),
+        z: program_words::float_at(s, at + 8),
+        scale: program_words::float_at(s, at + 12),
+        reciprocal: program_words::float_at(s, at + 16),
     }
+}
+
+// A list of N numbers, of which n are stored from `at` on.
+pub fn list_of<T: Stored, const N: usize>(s: &[u8], at: usize, n: usize) -> [T; N]
+    requires { (at + 4 * n ≤ length s.now) × (n ≤ N) }
+    ensures { N ≡ length result }
+{
+    let mut out = [T::of_word(0); N];
+    for i in 0..n {
+        out[i] = T::of_word(program_words::word(s, at + 4 * i));
+    }
+    out
 }
 
 // The list that four words describe.
@@ -228,15 +295,11 @@ pub fn row_of(s: &[u8], at: usize, from: usize) -> Row
     requires { at + 16 ≤ length s.now }
     ensures { (result.length ≤ 196620) × (result.stored ≤ 65536) × (result.from ≡ from) }
 {
-    let length = at_most(program_words::word(s, at) as usize, 196620);
-    let stored = at_most(program_words::word(s, at + 4) as usize, 65536);
-    let place = program_words::word(s, at + 8) as usize;
-    let value = program_words::word(s, at + 12);
     Row {
-        length,
-        stored,
-        place,
-        value,
+        length: (program_words::word(s, at) as usize).min(196620),
+        stored: (program_words::word(s, at + 4) as usize).min(65536),
+        place: program_words::word(s, at + 8) as usize,
+        value: program_words::word(s, at + 12),
         from,
     }
 }
@@ -256,30 +319,13 @@ fn word_at(s: &[u8], r: Row, i: usize) -> u32
     program_words::word(s, from + 4 * (i % m))
 }
 
-pub fn words(s: &[u8], r: Row) -> [u32; 196620]
+pub fn numbers<T: Stored>(s: &[u8], r: Row) -> [T; 196620]
     requires { (r.from + 4 * r.stored ≤ length s.now) × (r.length ≤ 196620) }
     ensures { 196620 ≡ length result }
 {
-    let n = r.length;
-    let mut out = [0u32; 196620];
-    let mut i = 0usize;
-    while i < n {
-        out[i] = word_at(s, r, i);
-        i += 1;
-    }
-    out
-}
-
-pub fn floats(s: &[u8], r: Row) -> [f32; 196620]
-    requires { (r.from + 4 * r.stored ≤ length s.now) × (r.length ≤ 196620) }
-    ensures { 196620 ≡ length result }
-{
-    let n = r.length;
-    let mut out = [0.0f32; 196620];
-    let mut i = 0usize;
-    while i < n {
-        out[i] = program_words::float_of(word_at(s, r, i));
-        i += 1;
+    let mut out = [T::of_word(0); 196620];
+    for i in 0..r.length {
+        out[i] = T::of_word(word_at(s, r, i));
     }
     out
 }
@@ -304,12 +350,9 @@ pub fn labels(s: &[u8], r: Row) -> [u8; 65536]
     requires { r.from + r.stored ≤ length s.now }
     ensures { 65536 ≡ length result }
 {
-    let n = at_most(r.length, 65536);
     let mut out = [0u8; 65536];
-    let mut i = 0usize;
-    while i < n {
-        out[i] = label_at(s, r, i);
-        i += 1;
+    for (i, label) in out[..r.length.min(65536)].iter_mut().enumerate() {
+        *label = label_at(s, r, i);
     }
     out
 }
@@ -324,95 +367,37 @@ pub fn padded(n: usize) -> usize
 
 // ---- outputs before a call
 
-pub fn blank_words(n: usize) -> [u32; 196620]
+// The first n numbers are none that an answer has.
+pub fn blank<T: Stored>(n: usize) -> [T; 196620]
     requires { n ≤ 196620 }
     ensures { 196620 ≡ length result }
 {
-    let mut out = [0u32; 196620];
-    let mut i = 0usize;
-    while i < n {
-        out[i] = (i % 97) as u32 + 4000000000;
-        i += 1;
-    }
-    out
-}
-
-pub fn blank_floats(n: usize) -> [f32; 196620]
-    requires { n ≤ 196620 }
-    ensures { 196620 ≡ length result }
-{
-    let mut out = [0.0f32; 196620];
-    let mut i = 0usize;
-    while i < n {
-        out[i] = program_words::float_of((i % 97) as u32 + 1100000000);
-        i += 1;
+    let mut out = [T::of_word(0); 196620];
+    for i in 0..n {
+        out[i] = T::blank(i);
     }
     out
 }
 
 // ---- outputs after it
 
-// A number that depends on every number and on its place.
-pub fn sum_words(out: &[u32]) -> u64 {
-    let mut t = 0u64;
-    let mut i = 0usize;
-    while i < out.len() {
-        t = folded(t, out[i] as u64);
-        i += 1;
-    }
-    t
-}
-
-// The bits of a float, or what no float has.
-fn bits_of(x: f32) -> u64 {
-    if x != x {
-        return 4294967296;
-    }
-    f32::to_bits(x) as u64
-}
-
-pub fn sum_floats(out: &[f32]) -> u64 {
-    let mut t = 0u64;
-    let mut i = 0usize;
-    while i < out.len() {
-        t = folded(t, bits_of(out[i]));
-        i += 1;
-    }
-    t
-}
-
 // As many numbers as are written out of an answer of n.
 fn few(n: usize, len: usize) -> usize
     ensures { result ≤ len }
 {
-    if 36 < n {
-        return 0;
-    }
-    at_most(n, len)
+    if 36 < n { 0 } else { n.min(len) }
 }
 
 // The first n numbers, if they are few.
-pub fn show_words(out: &[u32], n: usize) {
-    let end = few(n, out.len());
-    let mut i = 0usize;
-    while i < end {
-        number(out[i] as u64);
-        i += 1;
-    }
-}
-
-pub fn show_floats(out: &[f32], n: usize) {
-    let end = few(n, out.len());
-    let mut i = 0usize;
-    while i < end {
-        bits(out[i]);
-        i += 1;
+pub fn show<T: Stored>(out: &[T], n: usize) {
+    for item in &out[..few(n, out.len())] {
+        item.show();
     }
 }
 
 pub fn refused(f: Refusal) {
     text(b"refused ");
-    number(f.number as u64);
+    number(u64::from(f.reason.number()));
     number(f.place as u64);
 }
 

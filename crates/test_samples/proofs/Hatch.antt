@@ -1,4 +1,5 @@
 -- The rows of the table that open and close a cell. Labels and counts are computed; which cells are reached is shown by the neighbours of the two cells that change. Assumes nothing.
+use Rattle.std.specs.Prelude.{Ok}
 use mathlib.Core.Bool.{Bool, true, false, true≢false, not, ◌&&◌}
 use mathlib.Core.Logic.{◌⊎◌, inl, inr, ⊎_elim}
 use mathlib.Core.Path.{◌≡◌, refl, sym, ap, subst, ◌∙◌}
@@ -10,7 +11,7 @@ use lib.ListN.{set, get_or}
 use borrow.Author.Tests.{eq-eqb, ne_eqb}
 use Rattle.grid.specs.declared.Axes.{Axes}
 use Rattle.grid.specs.declared.Cell.{Cell}
-use Rattle.grid.specs.Answers.{answers, refuses}
+use Rattle.grid.specs.Answers.{refuses}
 use Rattle.grid.specs.First.{first_not, some_below}
 use Rattle.grid.specs.Grid.{num, cell_numbered, InGrid, at, Face, Border, on_border}
 use Rattle.grid.specs.Paths.{starts, steps, Through}
@@ -21,6 +22,7 @@ use Rattle.grid.proofs.Paths.{joined_in, joined_kind, joined_least}
 use Rattle.grid.proofs.Ways.{beside_face, face_way}
 use Rattle.edits.specs.Edits.{opening, closing, MeetsAir, aired, unreached, lidded, HasWay, lid, sealed, stays, changed}
 use Rattle.test_samples.specs.Table.{Holds, editing, axes, cell, cube, hatch_open}
+use Rattle.grid.specs.Refusals.{reason_numbered}
 
 abbrev five : Axes
 five = axes 5 5 5
@@ -82,7 +84,7 @@ elsewhere d h y z =
 air : MeetsAir five (cube 6 8 7) hatch
 air = inr (cell 0 2 2, record { i_in = omega arith; j_in = omega arith; k_in = omega arith }, beside_face five hatch down_i (omega arith), refl)
 
-pub hatch_opened : Holds (editing five (opening hatch) (cube 6 8 7) (answers 2) hatch_open)
+pub hatch_opened : Holds (editing five (opening hatch) (cube 6 8 7) (Ok 2) hatch_open)
 unfolding first_not changed
 hatch_opened = record {
   size = refl;
@@ -136,7 +138,7 @@ shut (steps {c = y} w f h p) =
     walls up_k q = not_both _ 8 6 (omega arith) refl q
     walls down_k q = not_both _ 8 6 (omega arith) refl q
 
-pub hatch_closed : Holds (editing five (closing hatch) hatch_open (answers 2) (cube 6 8 7))
+pub hatch_closed : Holds (editing five (closing hatch) hatch_open (Ok 2) (cube 6 8 7))
 unfolding first_not changed
 hatch_closed = record {
   size = refl;
@@ -155,6 +157,6 @@ hatch_closed = record {
 
 -- ---- the centre is no surface
 
-pub centre_refused : Holds (editing five (opening centre) (cube 6 8 7) (refuses 13 0) (cube 6 8 7))
+pub centre_refused : Holds (editing five (opening centre) (cube 6 8 7) (refuses (reason_numbered 13) 0) (cube 6 8 7))
 unfolding first_not
 centre_refused = (refl, refl)

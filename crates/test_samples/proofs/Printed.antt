@@ -1,11 +1,12 @@
 -- The row of the table that prints: the records one by one, the grid, the marks, the fill and the text, by computation. Assumes nothing.
+use Rattle.std.specs.Prelude.{Ok}
 use mathlib.Core.Path.{◌≡◌, refl, sym, subst}
 use mathlib.Core.List.{List, ◌∷◌}
 use Prim.Native.Nat.{ℕ}
 use lib.Ieee.{lt, le, eq, sub, mul, div, of_int, of_bits, of_fields, odd}
 use lib.ListN.{replicate}
 use Rattle.numbers.specs.Rounding.{ceil_of, nearest_of}
-use Rattle.grid.specs.Answers.{Outcome, answers}
+use Rattle.grid.specs.Answers.{Outcome}
 use Rattle.grid.specs.Counts.{count}
 use Rattle.grid.specs.First.{first_not, some_below}
 use Rattle.grid.specs.Grid.{first_ones}
@@ -26,7 +27,7 @@ use Rattle.test_samples.specs.Table.{Holds, printing, f, axes, laid_with, laid, 
 use Rattle.test_samples.proofs.Filled.{marked_filled}
 
 -- the reading
-three_read : Read records_of_three (answers (record { head = record { way = Size (f 1); mode = Flood }; points = three_points; triangles = two_triangles }))
+three_read : Read records_of_three (Ok (record { head = record { way = Size (f 1); mode = Flood }; points = three_points; triangles = two_triangles }))
 unfolding word_at of_bits of_fields odd
 three_read = Read.headed refl (Reads.point refl (Reads.point refl (Reads.point refl (Reads.triangle refl (Reads.triangle refl (Reads.end refl))))))
 
@@ -36,7 +37,7 @@ unfolding first_ones some_below bounded whole_units units_at on_axis is_candidat
 three_marked = refl
 
 abbrev said : Outcome Summary
-said = answers (summary_of (axes 3 3 3) (counts 2 0) (8 ∷ 8 ∷ replicate 25 6))
+said = Ok (summary_of (axes 3 3 3) (counts 2 0) (8 ∷ 8 ∷ replicate 25 6))
 
 three_tallied : Tallied Flood (axes 3 3 3) (8 ∷ 8 ∷ replicate 25 0) said
 unfolding first_not

@@ -1,11 +1,10 @@
 -- 01, Sample maps: the starred samples as one table. A row has what is asked and the answer that 01 gives; where 01 names an extent, the points are the origin and the corner that it spans. Definitions only.
-use Rattle.std.specs.Prelude.{◌≡◌, false, List, [], ◌∷◌, ◌++◌, ℕ, ℤ, pos, negsuc, replicate, Float}
+use Rattle.std.specs.Prelude.{◌≡◌, false, List, [], ◌∷◌, ◌++◌, ℕ, ℤ, pos, negsuc, replicate, Float, Ok}
 use Rattle.std.specs.Float.{fin}
-use Rattle.numbers.specs.declared.Whole.TheVariants.{Of}
 use Rattle.numbers.specs.Rounding.{nearest_of, units, cell_of}
 use Rattle.grid.specs.declared.Axes.{Axes}
 use Rattle.grid.specs.declared.Cell.{Cell}
-use Rattle.grid.specs.Answers.{Outcome, answers, refuses, Ends}
+use Rattle.grid.specs.Answers.{Outcome, refuses, Ends}
 use Rattle.grid.specs.Counts.{count_of}
 use Rattle.grid.specs.Grid.{num}
 use Rattle.sizing.specs.Sizing.{Laid, by_size, by_resolution}
@@ -22,6 +21,7 @@ use Rattle.program_summary.specs.Summary.{Summarizes}
 use Rattle.program.specs.Program.{text}
 use Rattle.edits.specs.Edits.{Edit, opening, closing}
 use Rattle.edits.specs.History.{Call}
+use Rattle.grid.specs.Refusals.{reason_numbered}
 
 pub data Sample : Type 0 where
   at_size : List Float → Float → Outcome Laid → Sample
@@ -37,15 +37,15 @@ pub data Sample : Type 0 where
 abbrev pub Holds : Sample → Type 0
 Holds (at_size ps size o) = by_size ps size ≡ o
 Holds (at_resolution ps r o) = by_resolution ps r ≡ o
-Holds (rounding t q cell) = (nearest_of units t ≡ Of q) × (cell_of q ≡ cell)
+Holds (rounding t q cell) = (nearest_of units t ≡ Ok q) × (cell_of q ≡ cell)
 Holds (numbered r c n) = num r c ≡ n
-Holds (marking ps ts l before after) = (mark_answer ps ts l.axes l.placement before ≡ answers tt) × (mark_labels ps ts l.axes l.placement before ≡ after)
+Holds (marking ps ts l before after) = (mark_answer ps ts l.axes l.placement before ≡ Ok tt) × (mark_labels ps ts l.axes l.placement before ≡ after)
 Holds (filling r mode before n after outside inside) =
-    Ends (fill_fault r before) before (Fills mode r before) (answers n) after × (count_of 6 after ≡ outside) × (count_of 7 after ≡ inside)
+    Ends (fill_fault r before) before (Fills mode r before) (Ok n) after × (count_of 6 after ≡ outside) × (count_of 7 after ≡ inside)
 Holds (editing r e before o after) = Call r e before o after
 -- the answer is that of outputs of exactly these lengths
 Holds (listing ps ts l labels cells pairs records list) =
-    (pairs_answer ps ts l.axes l.placement labels records list ≡ answers (record { cells = cells; pairs = pairs }))
+    (pairs_answer ps ts l.axes l.placement labels records list ≡ Ok (record { cells = cells; pairs = pairs }))
     × (records_of l.axes labels (triangles_of ps ts l.axes l.placement labels) ≡ records)
     × (triangle_list ps ts l.axes l.placement labels ≡ list)
 -- what the program prints of an input
@@ -83,7 +83,7 @@ abbrev pub laid_with : Axes → Float → Float → Laid
 laid_with a scale reciprocal = record { axes = a; placement = record { x = f 0; y = f 0; z = f 0; scale = scale; reciprocal = reciprocal } }
 
 abbrev pub laid : Axes → Float → Float → Outcome Laid
-laid a scale reciprocal = answers (laid_with a scale reciprocal)
+laid a scale reciprocal = Ok (laid_with a scale reciprocal)
 
 -- the points (0, 0, 0), (2, 2, 2) and (0.5, 0, 0); the triangles (2, 2, 2) and (0, 0, 0)
 abbrev pub three_points : List Float
@@ -186,7 +186,7 @@ table =
     ∷ filling (axes 3 3 3) Cavities (box 8 0) (counts 2 1) (box 8 0) 0 0
     ∷ filling (axes 5 5 5) Flood (cube 0 8 0) (counts 2 0) (cube 6 8 7) 98 1
     ∷ filling (axes 5 5 5) Cavities (cube 0 8 0) (counts 5 0) (cube 6 8 7) 98 1
-    ∷ editing (axes 5 5 5) (opening (cell 1 2 2)) (cube 6 8 7) (answers 2) hatch_open
-    ∷ editing (axes 5 5 5) (closing (cell 1 2 2)) hatch_open (answers 2) (cube 6 8 7)
-    ∷ editing (axes 5 5 5) (opening (cell 2 2 2)) (cube 6 8 7) (refuses 13 0) (cube 6 8 7)
+    ∷ editing (axes 5 5 5) (opening (cell 1 2 2)) (cube 6 8 7) (Ok 2) hatch_open
+    ∷ editing (axes 5 5 5) (closing (cell 1 2 2)) hatch_open (Ok 2) (cube 6 8 7)
+    ∷ editing (axes 5 5 5) (opening (cell 2 2 2)) (cube 6 8 7) (refuses (reason_numbered 13) 0) (cube 6 8 7)
     ∷ []

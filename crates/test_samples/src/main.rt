@@ -4,14 +4,11 @@
 
 ghost use Rattle.std.specs.Prelude.{◌≡◌, ◌<◌, length};
 
-use edits::Editing;
-use fill::{Filling, Mode};
-use grid::{Axes, Cell, Checked, Placement};
-use list::Listing;
+use fill::{FillCounts, Mode};
+use grid::{Axes, Cell, Placement, Refusal};
+use list::ListCounts;
 use list_record::CellRecord;
-use marking::Marking;
-use numbers::Whole;
-use program::Writing;
+use numbers::NoWhole;
 
 // A line ends after every `layer` labels.
 fn end_layer(n: usize, layer: usize)
@@ -26,11 +23,9 @@ fn end_layer(n: usize, layer: usize)
 fn show(labels: &[u8], layer: usize)
     requires { 0 < layer }
 {
-    let mut n = 0usize;
-    while n < labels.len() {
-        test_replay::number(labels[n] as u64);
-        n += 1;
-        end_layer(n, layer);
+    for (n, label) in labels.iter().enumerate() {
+        test_replay::number(u64::from(*label));
+        end_layer(n + 1, layer);
     }
 }
 
@@ -48,12 +43,12 @@ fn by_resolution(x: f32, y: f32, z: f32, r: u32) {
 // A coordinate, and its cell.
 fn rounding(t: f32) {
     match numbers::to_units(t) {
-        Whole::Of(q) => {
+        Ok(q) => {
             test_replay::signed(q);
             test_replay::signed(numbers::cell_of(q));
         }
-        Whole::TooLarge => test_replay::text(b"large"),
-        Whole::NotANumber => test_replay::text(b"nan"),
+        Err(NoWhole::TooLarge) => test_replay::text(b"large"),
+        Err(NoWhole::NotANumber) => test_replay::text(b"nan"),
     }
     test_replay::text(b"\n");
 }
@@ -92,8 +87,8 @@ fn marks() {
     let triangles = two_triangles();
     let mut labels = [7u8; 27];
     match marking::mark(&points, &triangles, three_axes(), placement(), &mut labels) {
-        Marking::Refused(f) => test_replay::checked(Checked::Fault(f)),
-        Marking::Marked => show(&labels, 9),
+        Err(f) => test_replay::checked(Err(f)),
+        Ok(()) => show(&labels, 9),
     }
 }
 
@@ -102,8 +97,8 @@ fn fill_and_show(labels: &mut [u8], r: Axes, mode: Mode, layer: usize)
     requires { 0 < layer }
 {
     match fill::fill(labels, r, mode) {
-        Filling::Refused(f) => test_replay::checked(Checked::Fault(f)),
-        Filling::Filled(n) => {
+        Err(f) => test_replay::checked(Err(f)),
+        Ok(n) => {
             test_replay::number(n.scans as u64);
             test_replay::number(n.left as u64);
             test_replay::number(grid::count_label(labels, grid::OUTSIDE) as u64);
@@ -115,10 +110,10 @@ fn fill_and_show(labels: &mut [u8], r: Axes, mode: Mode, layer: usize)
 }
 
 // What a list answers: how many cells and pairs are listed.
-fn show_listing(a: Listing) {
+fn show_listing(a: Result<ListCounts, Refusal>) {
     match a {
-        Listing::Refused(f) => test_replay::checked(Checked::Fault(f)),
-        Listing::Listed(n) => {
+        Err(f) => test_replay::checked(Err(f)),
+        Ok(n) => {
             test_replay::number(n.cells as u64);
             test_replay::number(n.pairs as u64);
             test_replay::text(b"\n");
@@ -128,10 +123,8 @@ fn show_listing(a: Listing) {
 
 // An output, or a slice of one, on a line.
 fn show_words(words: &[u32]) {
-    let mut n = 0usize;
-    while n < words.len() {
-        test_replay::number(words[n] as u64);
-        n += 1;
+    for word in words {
+        test_replay::number(u64::from(*word));
     }
     test_replay::text(b"\n");
 }
@@ -233,8 +226,8 @@ fn run_three() {
     let input = three_records();
     let mut output = [0u8; 256];
     match program::run(&input, &mut output) {
-        Writing::Refused(f) => test_replay::checked(Checked::Fault(f)),
-        Writing::Wrote(n) => test_replay::text(&output[..n]),
+        Err(f) => test_replay::checked(Err(f)),
+        Ok(n) => test_replay::text(&output[..n]),
     }
 }
 
@@ -242,13 +235,7 @@ fn run_three() {
 fn marks_about_the_centre() -> [u8; 125]
     ensures { 125 ≡ length result }
 {
-    let mut labels = [0u8; 125];
-    let mut n = 0usize;
-    while n < 125 {
-        labels[n] = marked_about_the_centre(n);
-        n += 1;
-    }
-    labels
+    std::array::from_fn(marked_about_the_centre)
 }
 
 fn five_axes() -> Axes {
@@ -265,10 +252,10 @@ fn five(mode: Mode) {
 }
 
 // How many labels an edit changed, and the labels after it.
-fn edited(e: Editing, labels: &[u8]) {
+fn edited(e: Result<usize, Refusal>, labels: &[u8]) {
     match e {
-        Editing::Refused(f) => test_replay::checked(Checked::Fault(f)),
-        Editing::Changed(n) => {
+        Err(f) => test_replay::checked(Err(f)),
+        Ok(n) => {
             test_replay::number(n as u64);
             test_replay::text(b"\n");
             show(labels, 25);

@@ -1,5 +1,5 @@
 -- Laws of specs/Bands.antt: the range of each number, and that the cells that thirteen bands leave are those that the triangle touches. Assumes nothing.
-use mathlib.Core.Path.{◌≡◌, refl, sym, ap, ◌∙◌}
+use mathlib.Core.Path.{◌≡◌, refl, sym, ap, subst, ◌∙◌}
 use mathlib.Core.List.{List, [], ◌∷◌, ◌++◌}
 use mathlib.Core.Bool.{Bool, true, false, not, cond, ◌&&◌, ◌||◌, and_assoc}
 use Prim.Native.Nat.{ℕ, ◌<◌, ◌^◌}
@@ -9,13 +9,13 @@ use lib.Dec.{T, ltb, leb, lit<}
 use lib.IntN.{ℤ, one, pos, neg_ℤ, ◌+ℤ◌, ◌-ℤ◌, ◌*ℤ◌, +ℤ_idl, +ℤ_idr, *ℤ-one, *ℤ-zero, zero-*ℤ, *ℤ_comm}
 use lib.Signed.{lt_z, le_z}
 use mir.Syntax.{w64}
-use mir.Facts.{to_z-of_z}
-use mir.Val.{SFits, to_z, of_z}
+use mir.Val.{to_z, of_z}
+use Rattle.std.specs.Int.{int_min, int_max}
 use Rattle.grid.specs.declared.Cell.{Cell}
 use Rattle.numbers.specs.Rounding.{units, half}
 use Rattle.ints.specs.Bound.{In, Val, Each, got, in_add, in_sub, in_mul, in_abs, in_lit, in_up, in_eq, in3, cons3}
 use Rattle.ints.specs.Casts.{of_unsigned}
-use Rattle.ints.specs.Order.{ap2, lesser, greater, le_not, lt_lesser, lt_greater, lt_less, lt_more}
+use Rattle.ints.specs.Order.{ap2, lesser, greater, le_z_antisym, lt_sums, le_not, lt_lesser, lt_greater, lt_less, lt_more}
 use Rattle.ints.specs.Ring.{ap3, mul_assoc}
 use Rattle.touch.specs.declared.Three.{Three}
 use Rattle.touch.specs.Touch.{along, vertex, centre, dot_z, cube_reach, edge, cross, axis_x, axis_y, axis_z, axes, edge_of, normal, with_axes, all_above, all_below, apart, some_apart, touching}
@@ -53,18 +53,26 @@ lesser_in {a = a} {b = b} h k = pick_in (lt_z b a) h k
 pub greater_in : {B : ℕ} {a b : ℤ} → In B a → In B b → In B (greater a b)
 greater_in {a = a} {b = b} h k = pick_in (lt_z a b) h k
 
--- one of two by a test of what a machine has: b where x is below y, else a
-pub picked : (x y a b : ℤ) (t : Bool) → SFits w64 x → SFits w64 y → SFits w64 (cond t b a) → lt_z (to_z w64 (of_z w64 x)) (to_z w64 (of_z w64 y)) ≡ t
-    → to_z w64 (of_z w64 (cond t b a)) ≡ cond (lt_z x y) b a
-picked x y a b t f g h e = to_z-of_z h ∙ ap (λ (u : Bool). cond u b a) (sym e ∙ ap2 lt_z (to_z-of_z f) (to_z-of_z g))
+-- what `min` and `max` of the library give: `min` tests as `lesser` does, and `max` the other way round than `greater`
+pub min_lesser : (a b : ℤ) → int_min a b ≡ lesser a b
+min_lesser a b = refl
+
+pub max_greater : (a b : ℤ) → int_max a b ≡ greater a b
+max_greater a b = go (lt_z b a) (lt_z a b) refl refl
+  where
+    go : (s t : Bool) → lt_z b a ≡ s → lt_z a b ≡ t → cond s a b ≡ cond t b a
+    go true true e f = absurd (omega (arith, (lt_sums a b).0 (subst T (sym f) tt), (lt_sums b a).0 (subst T (sym e) tt)))
+    go true false e f = refl
+    go false true e f = refl
+    go false false e f = le_z_antisym b a (subst T (sym (le_not b a ∙ ap not f)) tt) (subst T (sym (le_not a b ∙ ap not e)) tt)
 
 -- the same of values that a machine has
 module _ {B : ℕ} {r m n x y : ℤ} (t : T (ltb B (2 ^ 63))) where
-  pub v_lesser : r ≡ lesser m n → Val B m x → Val B n y → Val B (to_z w64 (of_z w64 r)) (lesser x y)
-  v_lesser e h k = got t (e ∙ ap2 lesser h.is k.is) (lesser_in {a = x} {b = y} (record { bound = h.bound }) (record { bound = k.bound }))
+  pub v_lesser : r ≡ int_min m n → Val B m x → Val B n y → Val B (to_z w64 (of_z w64 r)) (lesser x y)
+  v_lesser e h k = got t (e ∙ min_lesser m n ∙ ap2 lesser h.is k.is) (lesser_in {a = x} {b = y} (record { bound = h.bound }) (record { bound = k.bound }))
 
-  pub v_greater : r ≡ greater m n → Val B m x → Val B n y → Val B (to_z w64 (of_z w64 r)) (greater x y)
-  v_greater e h k = got t (e ∙ ap2 greater h.is k.is) (greater_in {a = x} {b = y} (record { bound = h.bound }) (record { bound = k.bound }))
+  pub v_greater : r ≡ int_max m n → Val B m x → Val B n y → Val B (to_z w64 (of_z w64 r)) (greater x y)
+  v_greater e h k = got t (e ∙ max_greater m n ∙ ap2 greater h.is k.is) (greater_in {a = x} {b = y} (record { bound = h.bound }) (record { bound = k.bound }))
 
 -- an axis is a direction, and its product with an edge is one
 axis_in : {B : ℕ} (x y z : ℕ) → T (leb x 1) → T (leb y 1) → T (leb z 1) → T (leb 1 B) → Each B (pos x ∷ pos y ∷ pos z ∷ [])

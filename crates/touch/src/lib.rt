@@ -4,7 +4,6 @@
 #![tactic(auto)]
 
 ghost use Rattle.std.specs.Prelude.{◌≡◌, ◌<◌};
-ghost use Rattle.ints.specs.Order.{lesser, greater};
 ghost use Rattle.touch.specs.Bands.{kept, kept_three, kept_all, BandFits, ThreeFit, Axial, Crosswise, BandsFit, CellFits, CoordinatesFit};
 
 use grid::Cell;
@@ -36,18 +35,6 @@ pub struct Bands {
     pub edge01: Three,
     pub edge12: Three,
     pub edge20: Three,
-}
-
-pub fn least(a: i64, b: i64) -> i64
-    ensures { result ≡ lesser a b }
-{
-    if b < a { b } else { a }
-}
-
-pub fn greatest(a: i64, b: i64) -> i64
-    ensures { result ≡ greater a b }
-{
-    if a < b { b } else { a }
 }
 
 fn keeps(s: Band, i: i64, j: i64, k: i64) -> bool

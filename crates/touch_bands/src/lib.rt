@@ -1,20 +1,12 @@
 // The thirteen bands of a triangle, one for each direction, and with them whether a triangle touches a cell.
 #![tactic(auto)]
 
-ghost use Rattle.std.specs.Prelude.{◌≡◌, ◌^◌, pos, nat_abs};
-ghost use Rattle.ints.specs.Bound.{In};
+ghost use Rattle.std.specs.Prelude.{◌≡◌};
 ghost use Rattle.touch.specs.Touch.{dot_z, cube_reach, edge, cross, axis_x, axis_y, axis_z, normal, touching};
 ghost use Rattle.touch.specs.Bands.{band_of, three_of, products_of, bands_of, DirectionFits, EdgeFits, VertexFits, TriangleFits, CellFits};
 
 use grid::Cell;
 use touch::{Band, Bands, Three};
-
-fn abs(x: i64) -> i64
-    requires { In (2 ^ 39) x }
-    ensures { result ≡ pos (nat_abs x) }
-{
-    if x < 0 { -x } else { x }
-}
 
 // The projection of v on d.
 fn dot(d: [i64; 3], v: [i64; 3]) -> i64
@@ -30,7 +22,7 @@ fn cube_reach(d: [i64; 3]) -> i64
     requires { DirectionFits d }
     ensures { result ≡ cube_reach d }
 {
-    numbers::HALF * (abs(d[0]) + abs(d[1]) + abs(d[2]))
+    numbers::HALF * (d[0].abs() + d[1].abs() + d[2].abs())
 }
 
 // The cells that the direction d does not separate from the triangle t.
@@ -47,8 +39,8 @@ fn band_along(d: [i64; 3], t: [[i64; 3]; 3]) -> Band
         x: numbers::SIDE * d[0],
         y: numbers::SIDE * d[1],
         z: numbers::SIDE * d[2],
-        low: touch::least(touch::least(a, b), c) - r,
-        high: touch::greatest(touch::greatest(a, b), c) + r,
+        low: a.min(b).min(c) - r,
+        high: a.max(b).max(c) + r,
     }
 }
 

@@ -2,8 +2,6 @@
 // turns on its first 7,190 bytes (program_reader/proofs/Long.antt), and the buffer has room for more.
 #![tactic(auto)]
 
-use program::Writing;
-
 // The numbers of the standard input and output among the open files.
 const STDIN: i32 = 0;
 
@@ -13,8 +11,8 @@ const STDOUT: i32 = 1;
 fn say(input: &[u8]) {
     let mut output = [0u8; 256];
     match program::run(input, &mut output) {
-        Writing::Refused(_) => {}
-        Writing::Wrote(k) => {
+        Err(_) => {}
+        Ok(k) => {
             io::write_all(STDOUT, &output[..k]);
         }
     }

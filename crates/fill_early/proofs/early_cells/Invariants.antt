@@ -1,11 +1,6 @@
 -- `fill_early::early_cells` meets its contract: up to here cells were set before their turn, or are idle, or one may act (`EarlyLoop`). Assumes nothing.
-use mathlib.Core.Path.{◌≡◌}
-use Prim.Native.Nat.{◌+◌, ◌*◌, ◌-◌}
 use Rattle.fill_early.proofs.EarlyLoop.{EarlyLoop}
 use Rattle.fill_early.proofs.early_cells.Given as goal
 
 abbrev pub invariant-loop-i : goal.invariant-loop-i
-invariant-loop-i l = EarlyLoop l.p l.r l.first l.end l.j l.k l.initial.l l.before l.l l.walked l.i l.acting × (l.next ≡ l.i + l.j * l.r.r0 + l.k * (l.r.r0 * l.r.r1))
-
-abbrev pub decreases-loop-i : goal.decreases-loop-i
-decreases-loop-i l = l.end - l.i
+invariant-loop-i l = EarlyLoop l.p l.r l.fn.slabs.from l.fn.slabs.to l.j l.k l.initial.l l.before l.l l.walked l.i l.acting

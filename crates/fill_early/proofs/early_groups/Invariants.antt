@@ -1,10 +1,6 @@
 -- `fill_early::early_groups` meets its contract (`Parts`). Assumes nothing.
-use Prim.Native.Nat.{◌-◌, ◌≤◌}
 use Rattle.fill_early.proofs.EarlyLoop.{Parts}
 use Rattle.fill_early.proofs.early_groups.Given as goal
 
 abbrev pub invariant-loop-j : goal.invariant-loop-j
-invariant-loop-j l = Parts l.p l.r l.slabs.from l.slabs.to 4096 l.initial.l l.initial.table l.before l.l l.table l.walked l.j × (l.j ≤ l.r.r1)
-
-abbrev pub decreases-loop-j : goal.decreases-loop-j
-decreases-loop-j l = l.r.r1 - l.j
+invariant-loop-j l = Parts l.p l.r l.slabs.from l.slabs.to 4096 l.initial.l l.initial.table l.before l.l l.table l.walked l.j

@@ -11,6 +11,6 @@ pub returns : goal.returns
 returns c =
     let a = c.args in
     let v = c.loop-k in
-    let k : v.k ≡ a.r.r2 = omega (arith, v.invariant.2, c.loop-k-test.false) in
-    let e : v.at ≡ cells a.r = v.invariant.1 ∙ ap (λ (x : ℕ). x * (a.r.r0 * a.r.r1)) k ∙ mul_comm a.r.r2 (a.r.r0 * a.r.r1) in
-    within_seeded a.r v.at a.labels.now v.labels c.requires.size e v.invariant.0
+    let k : v.k ≡ a.r.r2 = omega arith in
+    let e : v.k * (a.r.r0 * a.r.r1) ≡ cells a.r = ap (λ (x : ℕ). x * (a.r.r0 * a.r.r1)) k ∙ mul_comm a.r.r2 (a.r.r0 * a.r.r1) in
+    within_seeded a.r (v.k * (a.r.r0 * a.r.r1)) a.labels.now v.labels c.requires.size e v.invariant

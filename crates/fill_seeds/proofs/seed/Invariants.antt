@@ -1,12 +1,8 @@
 -- `fill_seeds::seed` meets its contract: a pass that has come to the first cell of layer k. Assumes nothing.
-use mathlib.Core.Path.{◌≡◌}
-use Prim.Native.Nat.{◌*◌, ◌-◌, ◌≤◌}
+use Prim.Native.Nat.{◌*◌}
 use Rattle.fill_seeds.specs.Seeds.{seed_at}
 use Rattle.grid.specs.Passes.{Within}
 use Rattle.fill_seeds.proofs.seed.Given as goal
 
 abbrev pub invariant-loop-k : goal.invariant-loop-k
-invariant-loop-k l = Within 0 l.at (seed_at l.r) l.initial.labels l.labels × (l.at ≡ l.k * (l.r.r0 * l.r.r1)) × (l.k ≤ l.r.r2)
-
-abbrev pub decreases-loop-k : goal.decreases-loop-k
-decreases-loop-k l = l.r.r2 - l.k
+invariant-loop-k l = Within 0 (l.k * (l.r.r0 * l.r.r1)) (seed_at l.r) l.initial.labels l.labels

@@ -1,12 +1,8 @@
 -- `fill_seeds::seed_layer` meets its contract: a pass that has come to the first cell of row j. Assumes nothing.
-use mathlib.Core.Path.{◌≡◌}
-use Prim.Native.Nat.{◌+◌, ◌*◌, ◌-◌, ◌≤◌}
+use Prim.Native.Nat.{◌+◌, ◌*◌}
 use Rattle.fill_seeds.specs.Seeds.{seed_at}
 use Rattle.grid.specs.Passes.{Within}
 use Rattle.fill_seeds.proofs.seed_layer.Given as goal
 
 abbrev pub invariant-loop-j : goal.invariant-loop-j
-invariant-loop-j l = Within l.first l.at (seed_at l.r) l.initial.labels l.labels × (l.at ≡ l.first + l.j * l.r.r0) × (l.j ≤ l.r.r1)
-
-abbrev pub decreases-loop-j : goal.decreases-loop-j
-decreases-loop-j l = l.r.r1 - l.j
+invariant-loop-j l = Within l.first (l.first + l.j * l.r.r0) (seed_at l.r) l.initial.labels l.labels

@@ -1,4 +1,5 @@
 -- `list::write_row` meets its contract: cell after cell (`Parts`). Assumes nothing.
+use mathlib.Core.Bool.{Bool, true, false}
 use mathlib.Core.Path.{◌≡◌, sym, ap, subst, ◌∙◌}
 use mathlib.Core.List.{List, [], ◌∷◌}
 use Prim.Native.Nat.{ℕ, ◌*◌}
@@ -30,10 +31,10 @@ room : (c : In-loop-k) → is_listed (at c.args.r c.args.labels.now (cell c)) �
 room c h =
     let a = c.args in let k = c.loop-k.k in
     subst (λ (cs : List Cell). RoomFrom c.loop-k.q cs c.loop-k.records) (one_yes a.r a.labels.now (cell c) h)
-    (parts_room a.r a.labels.now a.records.now a.p _ _ (row a.i a.j 0 k) (cell c ∷ []) _ _ _ c.loop-k.invariant.0 (row_next a.i a.j k) (row_part a.i a.j k a.r.r2 c.loop-k-test.true) c.requires.room_from)
+    (parts_room a.r a.labels.now a.records.now a.p _ _ (row a.i a.j 0 k) (cell c ∷ []) _ _ _ c.loop-k.invariant (row_next a.i a.j k) (row_part a.i a.j k a.r.r2 c.loop-k-test.true) c.requires.room_from)
 
 pub loop-k-init : goal.loop-k-init
-loop-k-init c = let a = c.args in (subst (Parts a.r a.labels.now a.records.now a.records.now a.p a.p) (sym (row_none a.i a.j)) (parts_none a.r a.labels.now a.records.now a.p), omega arith)
+loop-k-init c = let a = c.args in subst (Parts a.r a.labels.now a.records.now a.records.now a.p a.p) (sym (row_none a.i a.j)) (parts_none a.r a.labels.now a.records.now a.p)
 
 pub write-requires : goal.write-requires
 write-requires c = let s = c.requires.sheet.0.sound in let h = here (goal.at.write-requires c).In-loop-k in
@@ -44,16 +45,16 @@ overflow_add-q c =
     let w = ap is_listed (sym (label_is (goal.at.overflow_add-q c).In-loop-k _ c.number.ensures)) ∙ sym c.is_listed.ensures ∙ c.if-is_listed.true in
     omega (arith, (room (goal.at.overflow_add-q c).In-loop-k w).few)
 
-pub loop-k-preserved-then-is_listed : goal.loop-k-preserved-then-is_listed
-loop-k-preserved-then-is_listed c =
-    let a = c.args in let e = label_is (goal.at.loop-k-preserved-then-is_listed c).In-loop-k _ c.number.ensures in
-    let w = ap is_listed (sym e) ∙ sym c.is_listed.ensures ∙ c.if-is_listed.true in (
-      parts_yes a.r a.labels.now (cell (goal.at.loop-k-preserved-then-is_listed c).In-loop-k) a.records.now _ a.p _ _ _ c.loop-k.invariant.0 (row_next a.i a.j c.loop-k.k) w _
-          (subst (λ (v : ℕ). Written 0 (c.loop-k.q * width) (numbers_of (record { cell = cell (goal.at.loop-k-preserved-then-is_listed c).In-loop-k; surface = v; start = 0; end = 0 })) c.loop-k.records c.write.new.records) (c.flag_of.ensures ∙ ap flag_of e) c.write.ensures),
-      omega (arith, c.loop-k-test.true),
-    )
-
 pub loop-k-preserved : goal.loop-k-preserved
 loop-k-preserved c =
-    let a = c.args in let w = ap is_listed (sym (label_is (goal.at.loop-k-preserved c).In-loop-k _ c.number.ensures)) ∙ sym c.is_listed.ensures ∙ c.if-is_listed.false in
-    (parts_no a.r a.labels.now (cell (goal.at.loop-k-preserved c).In-loop-k) a.records.now _ a.p _ _ _ c.loop-k.invariant.0 (row_next a.i a.j c.loop-k.k) w, omega (arith, c.loop-k-test.true))
+    let a = c.args in
+    let turn = (goal.at.loop-k-preserved c).In-loop-k in
+    let e = label_is turn _ c.number.ensures in
+    let next = row_next a.i a.j c.loop-k.k in
+    let told : (b : Bool) → c.is_listed.result ≡ b → is_listed (at a.r a.labels.now (cell turn)) ≡ b = λ b f. ap is_listed (sym e) ∙ sym c.is_listed.ensures ∙ f in
+    elim c.if-is_listed.branch [
+      | goal.then-is_listed w ↦ rw (w.records-is, w.q-is)
+          (parts_yes a.r a.labels.now (cell turn) a.records.now _ a.p _ _ _ c.loop-k.invariant next (told true w.if-is_listed.true) _
+          (subst (λ (v : ℕ). Written 0 (c.loop-k.q * width) (numbers_of (record { cell = cell turn; surface = v; start = 0; end = 0 })) c.loop-k.records w.write.new.records) (w.flag_of.ensures ∙ ap flag_of e) w.write.ensures))
+      | goal.else-is_listed w ↦ rw (w.records-is, w.q-is) (parts_no a.r a.labels.now (cell turn) a.records.now _ a.p _ _ _ c.loop-k.invariant next (told false w.if-is_listed.false))
+    ]

@@ -1,10 +1,6 @@
 -- `list_hits::enter_slab` meets its contract: row after row (`Slabbing`), over what the slab's cuts leave. Assumes nothing.
-use Prim.Native.Nat.{◌-◌}
 use Rattle.list_hits.proofs.Sweeping.{Slabbing}
 use Rattle.list_hits.proofs.enter_slab.Given as goal
 
 abbrev pub invariant-loop-j : goal.invariant-loop-j
-invariant-loop-j l = Slabbing l.entrant.round.placing l.entrant.round.cells l.entrant.triangle l.i l.bands (record { from = l.initial.j; to = l.to }) l.k l.initial.records l.initial.list l.records l.list l.j
-
-abbrev pub decreases-loop-j : goal.decreases-loop-j
-decreases-loop-j l = l.to - l.j
+invariant-loop-j l = Slabbing l.entrant.round.placing l.entrant.round.cells l.entrant.triangle l.i l.bands (record { from = l.initial.j; to = l.j-end }) l.k l.initial.records l.initial.list l.records l.list l.j

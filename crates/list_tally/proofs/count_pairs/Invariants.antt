@@ -1,10 +1,6 @@
 -- `list_tally::count_pairs` meets its contract: triangle after triangle (`Paired`). Assumes nothing.
-use Prim.Native.Nat.{◌-◌, ◌≤◌}
 use Rattle.list_tally.proofs.Sizes.{Paired}
 use Rattle.list_tally.proofs.count_pairs.Given as goal
 
 abbrev pub invariant-loop-t : goal.invariant-loop-t
-invariant-loop-t l = Paired l.ps l.ts l.r l.placement l.labels l.t l.n × (l.t ≤ l.all)
-
-abbrev pub decreases-loop-t : goal.decreases-loop-t
-decreases-loop-t l = l.all - l.t
+invariant-loop-t l = Paired l.ps l.ts l.r l.placement l.labels l.t l.n

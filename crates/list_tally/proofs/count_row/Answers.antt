@@ -7,6 +7,7 @@ use lib.Dec.{eqb}
 use lib.ListN.{get_or}
 use Rattle.grid.specs.declared.Cell.{Cell}
 use Rattle.grid.specs.Grid.{InGrid}
+use Rattle.grid.proofs.Counts.{one_if}
 use Rattle.marking.proofs.Paint.{none_held, done_held, held_left}
 use Rattle.list_tally.proofs.Sizes.{tallied_starts, surface_same, turn, tallied_most}
 use Rattle.list_tally.proofs.count_row.Goals as goal
@@ -16,10 +17,10 @@ one_at_most true = omega arith
 one_at_most false = omega arith
 
 -- the cell of a turn
-abbrev cell : goal.After-surface_count-n → Cell
+abbrev cell : goal.After-from-n → Cell
 cell c = record { i = c.loop-i.i; j = c.args.j; k = c.args.k }
 
-here : (c : goal.After-surface_count-n) → InGrid c.args.r (cell c)
+here : (c : goal.After-from-n) → InGrid c.args.r (cell c)
 here c =
     let p = c.requires.to_le_r0 in
     record { i_in = omega (arith, p.0, c.loop-i-test.true, c.rest_along_i-left.ensures.within); j_in = p.1; k_in = p.2 }
@@ -34,13 +35,13 @@ pub overflow_add-n : goal.overflow_add-n
 overflow_add-n c =
     let a = c.args in
     let l = get_or a.labels.now c.number.result 0 in
-    omega (arith, tallied_most a.r c.requires.sheet.sound c.rest_along_i-left.result _ _ _ c.loop-i.invariant, c.surface_count-n.ensures, one_at_most (eqb l 8))
+    omega (arith, tallied_most a.r c.requires.sheet.sound c.rest_along_i-left.result _ _ _ c.loop-i.invariant, c.from-n.ensures ∙ one_if _, one_at_most (eqb l 8))
 
 pub loop-i-preserved : goal.loop-i-preserved
 loop-i-preserved c =
     let a = c.args in
     turn a.r a.labels.now c.rest_along_i-left.result _ a.j a.k _ _ (here c) c.loop-i-test.true c.loop-i.invariant
-    (c.surface_count-n.ensures ∙ ap {B = ℕ} (λ (n : ℕ). cond (eqb (get_or a.labels.now n 0) 8) 1 0) c.number.ensures)
+    (c.from-n.ensures ∙ one_if _ ∙ ap {B = ℕ} (λ (n : ℕ). cond (eqb (get_or a.labels.now n 0) 8) 1 0) c.number.ensures)
 
 pub returns : goal.returns
 returns c =

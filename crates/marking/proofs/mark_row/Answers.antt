@@ -10,13 +10,13 @@ use Rattle.marking.proofs.Paint.{along_starts, along_on, along_sheet, painted_sa
 use Rattle.marking.proofs.mark_row.Goals as goal
 
 -- the cell of a turn is one of the grid
-here : (c : goal.After-number-n) → InGrid c.args.r (record { i = c.loop-i.i; j = c.args.j; k = c.args.k })
+here : (c : goal.After-number) → InGrid c.args.r (record { i = c.loop-i.i; j = c.args.j; k = c.args.k })
 here c =
     let p = c.requires.to_le_r0 in
     record { i_in = omega (arith, p.0, c.loop-i-test.true, c.rest_along_i-left.ensures.within); j_in = p.1; k_in = p.2 }
 
 -- and the labels are still as many
-sheet : (c : goal.After-number-n) → Sheet c.args.r c.loop-i.labels
+sheet : (c : goal.After-number) → Sheet c.args.r c.loop-i.labels
 sheet c = along_sheet c.args.r c.rest_along_i-left.result c.loop-i.i _ _ _ c.loop-i.invariant c.requires.sheet
 
 pub loop-i-init : goal.loop-i-init
@@ -31,7 +31,7 @@ loop-i-preserved c =
     let i = c.loop-i.i in
     let m = c.loop-i.labels in
     let cell = painted_cell a.r m i a.j a.k (sheet c) (here c) in
-    let there = subst (λ (p : ℕ). Painted a.r (holds (row_of (one i) a.j a.k)) m (set m p 8)) (sym c.number-n.ensures) cell in
+    let there = subst (λ (p : ℕ). Painted a.r (holds (row_of (one i) a.j a.k)) m (set m p 8)) (sym c.number.ensures) cell in
     along_on a.r e i _ _ _ _ _ _ c.loop-i.invariant c.loop-i-test.true there (more_held e a.j a.k i c.loop-i.invariant.walk)
 
 pub returns : goal.returns

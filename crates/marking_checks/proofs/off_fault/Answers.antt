@@ -1,4 +1,5 @@
 -- `marking_checks::off_fault` meets its contract: where each point falls on a cell, each corner does. Assumes nothing.
+use Rattle.std.specs.Prelude.{Ok}
 use mathlib.Core.Bool.{Bool, true, false, true≢false}
 use mathlib.Core.List.{List}
 use mathlib.Core.Path.{◌≡◌, refl, sym, ap, ◌∙◌}
@@ -9,7 +10,6 @@ use lib.ListN.{length}
 use borrow.Author.Tests.{ltb-true}
 use Rattle.grid.specs.declared.Axes.{Axes}
 use Rattle.grid.specs.declared.Placement.{Placement}
-use Rattle.grid.specs.declared.Checked.TheVariants.{Fine}
 use Rattle.grid.specs.Answers.{fault_if}
 use Rattle.grid.specs.First.{first_not}
 use Rattle.grid.proofs.First.{at_first}
@@ -17,6 +17,7 @@ use Rattle.sizing.specs.Sizing.{points}
 use Rattle.marking_mesh.specs.Mesh.{on_grid, vertex_of}
 use Rattle.marking_mesh.specs.Ranges.{Named}
 use Rattle.marking_checks.proofs.off_fault.Goals as goal
+use Rattle.grid.specs.declared.Reason.TheVariants.{OffGrid}
 
 none_off : (ps : List Float) (ts : List ℕ) (r : Axes) (placement : Placement) → Named ps ts → ((v : ℕ) → v < points ps → on_grid r (vertex_of ps placement v) ≡ true)
     → ltb (first_not (λ v. on_grid r (vertex_of ps placement v)) ts) (length ts) ≡ false
@@ -35,4 +36,4 @@ pub returns-then-few_and_on : goal.returns-then-few_and_on
 returns-then-few_and_on c =
     let a = c.args in
     let k = first_not (λ v. on_grid a.r (vertex_of a.ps.now a.placement v)) a.ts.now in
-    sym (ap (λ (b : Bool). fault_if b 10 (k / 3) Fine) (none_off a.ps.now a.ts.now a.r a.placement c.requires.named (c.few_and_on.ensures c.if-few_and_on.true)))
+    sym (ap (λ (b : Bool). fault_if b OffGrid (k / 3) (Ok tt)) (none_off a.ps.now a.ts.now a.r a.placement c.requires.named (c.few_and_on.ensures c.if-few_and_on.true)))

@@ -4,7 +4,7 @@ use lib.IntN.{◌+ℤ◌, ◌*ℤ◌}
 use mir.Syntax.{w64}
 use mir.Val.{to_z, of_z}
 use Prim.Native.Nat.{◌+◌, ◌*◌, ◌^◌}
-use Rattle.ints.specs.Bound.{Val, arg, plus, minus, times, v_in, v_add, v_sub, fits, in_up}
+use Rattle.ints.specs.Bound.{Val, arg, plus, minus, times, v_in, v_add, v_sub, v_mul, fits, in_up}
 use Rattle.marking_cuts.proofs.Laws.{line_i, cut_is, cut_same}
 use Rattle.marking_cuts.proofs.band_along_i.Goals as goal
 use Rattle.marking_cuts.proofs.band_along_i.Goals.{Start}
@@ -12,6 +12,12 @@ use Rattle.marking_cuts.proofs.band_along_i.Goals.{Start}
 -- what the row adds to every place
 base : (c : Start) → Val (2 ^ 49 * 255 + 2 ^ 49 * 255) (to_z w64 (of_z w64 (to_z w64 (of_z w64 (to_z w64 (of_z w64 c.args.s.y) *ℤ to_z w64 (of_z w64 c.args.j))) +ℤ to_z w64 (of_z w64 (to_z w64 (of_z w64 c.args.s.z) *ℤ to_z w64 (of_z w64 c.args.k)))))) (c.args.s.y *ℤ c.args.j +ℤ c.args.s.z *ℤ c.args.k)
 base c = plus tt (times tt (arg tt c.requires.1.y_in) (arg tt c.requires.2)) (times tt (arg tt c.requires.1.z_in) (arg tt c.requires.3))
+
+pub overflow_mul-base : goal.overflow_mul-base
+overflow_mul-base c = fits tt (v_mul (arg tt c.requires.1.y_in) (arg tt c.requires.2))
+
+pub overflow_mul-base-2 : goal.overflow_mul-base-2
+overflow_mul-base-2 c = fits tt (v_mul (arg tt c.requires.1.z_in) (arg tt c.requires.3))
 
 pub overflow_add-base : goal.overflow_add-base
 overflow_add-base c =

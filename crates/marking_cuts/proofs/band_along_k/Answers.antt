@@ -1,41 +1,19 @@
--- `marking_cuts::band_along_k` meets its contract: the band's test along the row is a line's (`line_k`). Assumes nothing.
-use native.Mathlib.Omega.{arith}
-use lib.IntN.{◌+ℤ◌, ◌*ℤ◌}
-use mir.Syntax.{w64}
-use mir.Val.{to_z, of_z}
-use Prim.Native.Nat.{◌+◌, ◌*◌, ◌^◌}
-use Rattle.ints.specs.Bound.{Val, arg, plus, minus, times, v_in, v_add, v_sub, fits, in_up}
-use Rattle.marking_cuts.proofs.Laws.{line_k, cut_is, cut_same}
+-- `marking_cuts::band_along_k` meets its contract: a row along i of the turned band (`turn_k`). Assumes nothing.
+use mathlib.Core.Path.{◌∙◌}
+use Rattle.touch.specs.Bands.{BandFits}
+use Rattle.ints.specs.Bound.{arg, v_in}
+use Rattle.marking_cuts.proofs.Laws.{turned_k, turn_k, band_in, row_read, cut_same}
 use Rattle.marking_cuts.proofs.band_along_k.Goals as goal
 use Rattle.marking_cuts.proofs.band_along_k.Goals.{Start}
 
--- what the row adds to every place
-base : (c : Start) → Val (2 ^ 49 * 255 + 2 ^ 49 * 255) (to_z w64 (of_z w64 (to_z w64 (of_z w64 (to_z w64 (of_z w64 c.args.s.x) *ℤ to_z w64 (of_z w64 c.args.i))) +ℤ to_z w64 (of_z w64 (to_z w64 (of_z w64 c.args.s.y) *ℤ to_z w64 (of_z w64 c.args.j)))))) (c.args.s.x *ℤ c.args.i +ℤ c.args.s.y *ℤ c.args.j)
-base c = plus tt (times tt (arg tt c.requires.1.x_in) (arg tt c.requires.2)) (times tt (arg tt c.requires.1.y_in) (arg tt c.requires.3))
+turned : (c : Start) → BandFits (turned_k c.args.s)
+turned c = let p = c.requires in record { x_in = p.1.z_in; y_in = p.1.x_in; z_in = p.1.y_in; low_in = p.1.low_in; high_in = p.1.high_in }
 
-pub overflow_add-base : goal.overflow_add-base
-overflow_add-base c =
-    let p = c.requires in
-    fits tt (v_add (times tt (arg tt p.1.x_in) (arg tt p.2)) (times tt (arg tt p.1.y_in) (arg tt p.3)))
-
-pub overflow_sub-s : goal.overflow_sub-s
-overflow_sub-s c = fits tt (v_sub (arg tt c.requires.1.low_in) (base (goal.at.overflow_sub-s c).Start))
-
-pub overflow_sub-s-2 : goal.overflow_sub-s-2
-overflow_sub-s-2 c = fits tt (v_sub (arg tt c.requires.1.high_in) (base (goal.at.overflow_sub-s-2 c).Start))
-
-pub cut-requires : goal.cut-requires
-cut-requires c =
-    let p = c.requires in (
-      omega (arith, c.if-to-from.false),
-      p.0,
-      v_in (arg tt p.1.z_in),
-      in_up (2 ^ 61) tt (v_in (minus tt (arg tt p.1.low_in) (base (goal.at.cut-requires c).Start))),
-      in_up (2 ^ 61) tt (v_in (minus tt (arg tt p.1.high_in) (base (goal.at.cut-requires c).Start))),
-    )
+pub band_along_i-requires : goal.band_along_i-requires
+band_along_i-requires c = let p = c.requires in (p.0, band_in _ (turned (goal.at.band_along_i-requires c).Start), v_in (arg tt p.2), v_in (arg tt p.3))
 
 pub returns : goal.returns
 returns c =
     let a = c.args in
     let p = c.requires in
-    cut_same a.e _ _ _ (cut_is a.e _ (arg tt p.1.z_in).is (minus tt (arg tt p.1.low_in) (base (goal.at.returns c).Start)).is (minus tt (arg tt p.1.high_in) (base (goal.at.returns c).Start)).is c.cut.ensures) (line_k a.s a.i a.j)
+    cut_same a.e _ _ _ c.band_along_i.ensures (λ x. row_read (turned_k a.s) a.i a.j x (turned (goal.at.returns c).Start) p.2 p.3 ∙ turn_k a.s a.i a.j x)

@@ -1,23 +1,10 @@
 -- `marking_cuts::layer_along_i` meets its contract: cut after cut. Assumes nothing.
 use mathlib.Core.Bool.{◌&&◌}
-use native.Mathlib.Nat.{le_trans}
-use Rattle.ints.specs.Bound.{in_lit}
 use lib.IntN.{pos}
 use Rattle.touch.specs.Bands.{kept}
 use Rattle.touch.proofs.Laws.{signed}
-use Rattle.marking_cuts.proofs.Laws.{place_in, cut_same, cut_then}
+use Rattle.marking_cuts.proofs.Laws.{cut_same, cut_then}
 use Rattle.marking_cuts.proofs.layer_along_i.Goals as goal
-
-pub band_along_i-edge01-requires : goal.band_along_i-edge01-requires
-band_along_i-edge01-requires c = let p = c.requires in (p.0, p.1.edge01_ok.y_ok, in_lit 255 (pos 0) tt, place_in p.2)
-
-pub band_along_i-edge12-requires : goal.band_along_i-edge12-requires
-band_along_i-edge12-requires c = let p = c.requires in (le_trans c.band_along_i-edge01.ensures.within p.0, p.1.edge12_ok.y_ok, in_lit 255 (pos 0) tt, place_in p.2)
-
-pub band_along_i-requires : goal.band_along_i-requires
-band_along_i-requires c =
-    let p = c.requires in
-    (le_trans c.band_along_i-edge12.ensures.within (le_trans c.band_along_i-edge01.ensures.within p.0), p.1.edge20_ok.y_ok, in_lit 255 (pos 0) tt, place_in p.2)
 
 pub returns : goal.returns
 returns c =

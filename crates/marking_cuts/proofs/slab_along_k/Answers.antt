@@ -1,23 +1,10 @@
 -- `marking_cuts::slab_along_k` meets its contract: cut after cut. Assumes nothing.
 use mathlib.Core.Bool.{◌&&◌}
-use native.Mathlib.Nat.{le_trans}
-use Rattle.ints.specs.Bound.{in_lit}
 use lib.IntN.{pos}
 use Rattle.touch.specs.Bands.{kept}
 use Rattle.touch.proofs.Laws.{signed}
-use Rattle.marking_cuts.proofs.Laws.{place_in, cut_same, cut_then}
+use Rattle.marking_cuts.proofs.Laws.{cut_same, cut_then}
 use Rattle.marking_cuts.proofs.slab_along_k.Goals as goal
-
-pub band_along_k-edge01-requires : goal.band_along_k-edge01-requires
-band_along_k-edge01-requires c = let p = c.requires in (p.0, p.1.edge01_ok.y_ok, place_in p.2, in_lit 255 (pos 0) tt)
-
-pub band_along_k-edge12-requires : goal.band_along_k-edge12-requires
-band_along_k-edge12-requires c = let p = c.requires in (le_trans c.band_along_k-edge01.ensures.within p.0, p.1.edge12_ok.y_ok, place_in p.2, in_lit 255 (pos 0) tt)
-
-pub band_along_k-requires : goal.band_along_k-requires
-band_along_k-requires c =
-    let p = c.requires in
-    (le_trans c.band_along_k-edge12.ensures.within (le_trans c.band_along_k-edge01.ensures.within p.0), p.1.edge20_ok.y_ok, place_in p.2, in_lit 255 (pos 0) tt)
 
 pub returns : goal.returns
 returns c =

@@ -1,4 +1,5 @@
 -- `numbers::floor_scaled` meets its contract. Each `return` is one of `proofs/Laws.antt`'s cases of the fields of x's bit pattern. Assumes nothing.
+use Rattle.std.specs.Prelude.{Ok}
 use borrow.Author.Rules.{sfits_of}
 use native.Mathlib.Nat.{mod-lt}
 use mathlib.Core.Path.{◌≡◌, sym, ap, ◌∙◌, subst}
@@ -9,7 +10,6 @@ use lib.Pow.{pow_pos}
 use lib.Ieee.{Float, binary32, fits, is_nan, to_bits, of_fields}
 use mir.Syntax.{w64}
 use mir.ValLaws.{to_z-of_z}
-use Rattle.numbers.specs.declared.Whole.TheVariants.{Of}
 use Rattle.numbers.specs.Rounding.{floor_times}
 use Rattle.numbers.proofs.Laws.{is_nan_lem, no_nan, fields_are, floor_large, floor_subnormal, floor_field}
 use Rattle.numbers.proofs.floor_scaled.Goals as goal
@@ -53,7 +53,7 @@ returns-then-large c =
 pub returns-then-field-eq0 : goal.returns-then-field-eq0
 returns-then-field-eq0 c =
     let p = c.args.places in
-    ap Of (to_z-of_z w64 c.shifted.result (sfits_of c.shifted.type_inv) ∙ c.shifted.ensures)
+    ap Ok (to_z-of_z w64 c.shifted.result (sfits_of c.shifted.type_inv) ∙ c.shifted.ensures)
     ∙ floor_subnormal p (sign (goal.at.returns-then-field-eq0 c).Start) (digits (goal.at.returns-then-field-eq0 c).Start) (short (goal.at.returns-then-field-eq0 c).Start) c.requires
     ∙ ap (λ (f : ℕ). floor_times (2 ^ p) (of_fields binary32 (sign (goal.at.returns-then-field-eq0 c).Start) f (digits (goal.at.returns-then-field-eq0 c).Start))) (sym c.if-field-eq0.true)
     ∙ ap (floor_times (2 ^ p)) (is_x (goal.at.returns-then-field-eq0 c).Start)
@@ -61,6 +61,6 @@ returns-then-field-eq0 c =
 pub returns : goal.returns
 returns c =
     let p = c.args.places in
-    ap Of (to_z-of_z w64 c.shifted-2.result (sfits_of c.shifted-2.type_inv) ∙ c.shifted-2.ensures)
+    ap Ok (to_z-of_z w64 c.shifted-2.result (sfits_of c.shifted-2.type_inv) ∙ c.shifted-2.ensures)
     ∙ floor_field p (sign (goal.at.returns c).Start) (field (goal.at.returns c).Start) (digits (goal.at.returns c).Start) (short (goal.at.returns c).Start) c.requires c.if-large.false c.if-field-eq0.false
     ∙ ap (floor_times (2 ^ p)) (is_x (goal.at.returns c).Start)

@@ -4,8 +4,8 @@ use lib.ListN.{length}
 use Rattle.program_reader.proofs.Readings.{SoFar}
 use Rattle.program_reader.proofs.read_on.Given as goal
 
-abbrev pub invariant-loop-f : goal.invariant-loop-f
-invariant-loop-f l = SoFar l.input l.head l.ps l.ts l.at l.points l.triangles
+abbrev pub invariant-loop-record : goal.invariant-loop-record
+invariant-loop-record l = SoFar l.input l.head l.ps l.ts l.at l.points l.triangles
 
-abbrev pub decreases-loop-f : goal.decreases-loop-f
-decreases-loop-f l = length l.input - l.at
+abbrev pub decreases-loop-record : goal.decreases-loop-record
+decreases-loop-record l = length l.input - l.at

@@ -2,6 +2,9 @@
 use mathlib.Core.Path.{◌≡◌, sym, ap, ◌∙◌}
 use Prim.Native.Nat.{ℕ, ◌-◌}
 use lib.Ieee.{Float, binary32, lt, div, of_bits}
+use Rattle.std.specs.Prelude.{Err}
+use Rattle.grid.specs.declared.Refusal.{Refusal}
+use Rattle.grid.specs.declared.Reason.TheVariants.{NoExtent}
 use Rattle.grid.proofs.Checks.{refused_here, refused_not}
 use Rattle.sizing.specs.Sizing.{main_of, dmain_of, extent, extent_at, axis_by_resolution, as_float, placed_at, resolution_axes, resolution_scale, grid_of, least_extent}
 use Rattle.sizing.proofs.resolution_grid.Goals as goal
@@ -15,7 +18,9 @@ main_is c =
 
 pub returns-then-dmain : goal.returns-then-dmain
 unfolding of_bits
-returns-then-dmain c = refused_here _ 7 0 _ (ap (λ (d : Float). lt d least_extent) (sym (main_is (goal.at.returns-then-dmain c).After-extent_at-dmain)) ∙ c.if-dmain.true)
+returns-then-dmain c =
+    ap (λ (f : Refusal). Err f) c.at.ensures
+    ∙ refused_here _ NoExtent 0 _ (ap (λ (d : Float). lt d least_extent) (sym (main_is (goal.at.returns-then-dmain c).After-extent_at-dmain)) ∙ c.if-dmain.true)
 
 pub returns : goal.returns
 unfolding of_bits
@@ -32,4 +37,4 @@ returns c =
     let at : c.placed.result ≡ placed_at s (resolution_scale s r) = c.placed.ensures ∙ (λ t. placed_at s (div binary32 (ed t) (k t))) in
     c.graded.ensures
     ∙ (λ t. grid_of (record { r0 = e0 t; r1 = e1 t; r2 = e2 t }) (at t))
-    ∙ refused_not _ 7 0 _ (ap (λ (d : Float). lt d least_extent) (sym ed) ∙ c.if-dmain.false)
+    ∙ refused_not _ NoExtent 0 _ (ap (λ (d : Float). lt d least_extent) (sym ed) ∙ c.if-dmain.false)

@@ -6,11 +6,11 @@ use Rattle.sizing_points.proofs.first_out.Goals as goal
 
 pub loop-i-preserved : goal.loop-i-preserved
 loop-i-preserved c =
-    looking_on _ nan _ c.loop-i.i c.loop-i-test.true c.loop-i.invariant (sym c.in_bounds.ensures ∙ c.if-in_bounds.true)
+    looking_on _ nan _ c.loop-i.i c.loop-i-test.true c.loop-i.invariant (sym c.in_bounds.ensures ∙ c.if-not-in_bounds.false)
 
-pub returns-else-in_bounds : goal.returns-else-in_bounds
-returns-else-in_bounds c =
-    looking_here _ nan _ c.loop-i.i c.loop-i-test.true c.loop-i.invariant (sym c.in_bounds.ensures ∙ c.if-in_bounds.false)
+pub returns-then-not-in_bounds : goal.returns-then-not-in_bounds
+returns-then-not-in_bounds c =
+    looking_here _ nan _ c.loop-i.i c.loop-i-test.true c.loop-i.invariant (sym c.in_bounds.ensures ∙ c.if-not-in_bounds.true)
 
 pub returns : goal.returns
 returns c = looking_done _ nan _ _ c.loop-i-test.false c.loop-i.invariant

@@ -1,11 +1,13 @@
 -- `sizing_points::numbers_fault` meets its contract: all numbers are in bounds exactly if the first place is the length. Assumes nothing.
+use Rattle.std.specs.Prelude.{Ok, Err}
 use borrow.Author.Rules.{rules}
 use borrow.Author.Tests.{lt-ltb, le-ltb}
 use mathlib.Core.Path.{sym, ap, ◌∙◌, subst}
 use Prim.Native.Nat.{ℕ, ◌+◌, ◌<◌}
 use lib.ListN.{length}
-use Rattle.grid.specs.declared.Checked.TheVariants.{Fine}
-use Rattle.grid.specs.Answers.{fault_at}
+use Rattle.grid.specs.declared.Reason.TheVariants.{BadNumber}
+use Rattle.grid.specs.declared.Refusal.{Refusal}
+use Rattle.grid.specs.Answers.{refuses}
 use Rattle.grid.specs.First.{first_not}
 use Rattle.grid.proofs.First.{every_passes, some_fails}
 use Rattle.grid.proofs.Checks.{fault_here, fault_not}
@@ -23,7 +25,7 @@ returns-then-all_in_bounds c =
     let a = c.args in
     let ps = a.ps.now in
     let p = first_not (bounded 20) ps in
-    fault_not _ 3 (a.before + p) Fine (le-ltb p (length ps) (every_passes (bounded 20) ps (sym c.all_in_bounds.ensures ∙ c.if-all_in_bounds.true)))
+    fault_not _ BadNumber (a.before + p) (Ok tt) (le-ltb p (length ps) (every_passes (bounded 20) ps (sym c.all_in_bounds.ensures ∙ c.if-all_in_bounds.true)))
 
 pub overflow_add-before : goal.overflow_add-before
 overflow_add-before c = let h = placed c in search rules
@@ -33,6 +35,6 @@ returns c =
     let a = c.args in
     let ps = a.ps.now in
     let p = first_not (bounded 20) ps in
-    c.fault.ensures
-    ∙ ap (λ (n : ℕ). fault_at 3 (a.before + n)) c.first_out.ensures
-    ∙ fault_here _ 3 (a.before + p) Fine (lt-ltb p (length ps) (some_fails (bounded 20) ps (sym c.all_in_bounds.ensures ∙ c.if-all_in_bounds.false)))
+    ap (λ (f : Refusal). Err f) c.at.ensures
+    ∙ ap (λ (n : ℕ). refuses BadNumber (a.before + n)) c.first_out.ensures
+    ∙ fault_here _ BadNumber (a.before + p) (Ok tt) (lt-ltb p (length ps) (some_fails (bounded 20) ps (sym c.all_in_bounds.ensures ∙ c.if-all_in_bounds.false)))

@@ -12,7 +12,7 @@ overflow_sub-result c =
     let b = got tt c.dot-b.ensures (dot_in c.requires.direction_fits (c.requires.triangle_fits.at 1)) in
     let d = got tt c.dot-c.ensures (dot_in c.requires.direction_fits (c.requires.triangle_fits.at 2)) in
     let r = got tt c.cube_reach-r.ensures (reach_in c.requires.direction_fits) in
-    fits tt (v_sub (v_lesser tt c.least-2.ensures (v_lesser tt c.least.ensures a b) d) r)
+    fits tt (v_sub (v_lesser tt c.min-2.ensures.value (v_lesser tt c.min.ensures.value a b) d) r)
 
 pub overflow_add-result : goal.overflow_add-result
 overflow_add-result c =
@@ -20,7 +20,7 @@ overflow_add-result c =
     let b = got tt c.dot-b.ensures (dot_in c.requires.direction_fits (c.requires.triangle_fits.at 1)) in
     let d = got tt c.dot-c.ensures (dot_in c.requires.direction_fits (c.requires.triangle_fits.at 2)) in
     let r = got tt c.cube_reach-r.ensures (reach_in c.requires.direction_fits) in
-    fits tt (v_add (v_greater tt c.greatest-2.ensures (v_greater tt c.greatest.ensures a b) d) r)
+    fits tt (v_add (v_greater tt c.max-2.ensures.value (v_greater tt c.max.ensures.value a b) d) r)
 
 pub returns : goal.returns
 unfolding band_of
@@ -32,6 +32,6 @@ returns c =
     let x = (times tt (lit (pos units)) (arg tt (c.requires.direction_fits.at 0))).is in
     let y = (times tt (lit (pos units)) (arg tt (c.requires.direction_fits.at 1))).is in
     let z = (times tt (lit (pos units)) (arg tt (c.requires.direction_fits.at 2))).is in
-    let low = (minus tt (v_lesser tt c.least-2.ensures (v_lesser tt c.least.ensures a b) d) r).is in
-    let high = (plus tt (v_greater tt c.greatest-2.ensures (v_greater tt c.greatest.ensures a b) d) r).is in
+    let low = (minus tt (v_lesser tt c.min-2.ensures.value (v_lesser tt c.min.ensures.value a b) d) r).is in
+    let high = (plus tt (v_greater tt c.max-2.ensures.value (v_greater tt c.max.ensures.value a b) d) r).is in
     λ t. record { x = x t; y = y t; z = z t; low = low t; high = high t }

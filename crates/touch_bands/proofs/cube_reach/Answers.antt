@@ -7,4 +7,4 @@ use Rattle.touch_bands.proofs.cube_reach.Goals as goal
 
 pub returns : goal.returns
 unfolding cube_reach
-returns c = (times tt (lit (pos half)) (plus tt (plus tt (sized tt c.abs.ensures (arg tt (c.requires.at 0))) (sized tt c.abs-2.ensures (arg tt (c.requires.at 1)))) (sized tt c.abs-3.ensures (arg tt (c.requires.at 2))))).is
+returns c = (times tt (lit (pos half)) (plus tt (plus tt (sized tt c.abs.ensures.value (arg tt (c.requires.at 0))) (sized tt c.abs-2.ensures.value (arg tt (c.requires.at 1)))) (sized tt c.abs-3.ensures.value (arg tt (c.requires.at 2))))).is

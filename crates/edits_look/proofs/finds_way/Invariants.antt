@@ -1,9 +1,0 @@
--- `edits_look::finds_way` meets its contract. Assumes nothing.
-use Prim.Native.Nat.{◌-◌}
-use Rattle.edits_look.proofs.finds_way.Given as goal
-
-abbrev pub invariant-loop-d : goal.invariant-loop-d
-invariant-loop-d l = Unit
-
-abbrev pub decreases-loop-d : goal.decreases-loop-d
-decreases-loop-d l = 6 - l.d

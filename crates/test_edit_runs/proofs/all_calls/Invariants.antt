@@ -1,9 +1,0 @@
--- `test_edit_runs::all_calls` keeps the slice's length. Assumes nothing.
-use Rattle.std.proofs.Common.{◌≡◌, ◌-◌, length}
-use Rattle.test_edit_runs.proofs.all_calls.Given as goal
-
-abbrev pub invariant-loop-i : goal.invariant-loop-i
-invariant-loop-i l = length l.labels ≡ length l.initial.labels
-
-abbrev pub decreases-loop-i : goal.decreases-loop-i
-decreases-loop-i l = l.calls - l.i

@@ -1,9 +1,0 @@
--- `test_edit_runs::first_bad` ends. Assumes nothing.
-use Rattle.std.proofs.Common.{◌-◌, ◌≤◌}
-use Rattle.test_edit_runs.proofs.first_bad.Given as goal
-
-abbrev pub invariant-loop-i : goal.invariant-loop-i
-invariant-loop-i l = l.i ≤ l.n
-
-abbrev pub decreases-loop-i : goal.decreases-loop-i
-decreases-loop-i l = l.n - l.i
